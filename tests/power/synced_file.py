@@ -1,4 +1,5 @@
-"""The file of a device, as shim.c reports what is done to it: its bytes at the last sync, and what was written since."""
+"""The file of a device, as shim.c reports what is done to it: its bytes at the last sync, and what was written
+since."""
 import struct
 
 HEAD_OF_EVENT = struct.Struct("<cQQ")  # as shim.c reports what is done to the file: a kind, a place and a length
