@@ -120,13 +120,14 @@ class Model(Case):
         self.assertEqual(subprocess.run([search], check=False).returncode, 0)
 
 
-# A tree of four crates, of which the program is made from two.
+# A tree of five crates, of which the program is made from three.
 CRATES = """\
 # What it stands on
 disk:
+oplog: disk
 machine: disk  # a model, on which the program doesn't depend
 parts_tests tests_may=Wait: disk machine
-waffd may_wait=1: disk
+waffd may_wait=1: disk oplog
 """
 FILES = {
     "crates.txt": CRATES,
@@ -135,6 +136,7 @@ FILES = {
     "crates/disk/proofs/Lib.antt": "",
     "crates/disk/proofs/Examples.antt": "",
     "crates/disk/must-fail/wrong.edit": "",
+    "crates/oplog/src/lib.rt": "",
     "crates/machine/src/lib.rt": "",
     "crates/parts_tests/src/lib.rt": "",
     "crates/waffd/src/lib.rt": "",
@@ -246,7 +248,7 @@ esac
 echo "$stamp" > "$kept"
 [ "$1" != run ] || echo "the program" > out/waffd
 """
-WHOLE = "lib disk\nrun waffd\n"
+WHOLE = "lib disk\nlib oplog\nrun waffd\n"
 
 
 class Build(Case):
@@ -305,6 +307,9 @@ class Build(Case):
         self.assertGreater(os.path.getmtime(self.at("tree/crates/waffd/out/built")), 1000)
         self.put_source("disk", "another")
         self.builds("a crate has changed", 0, WHOLE)
+        shutil.rmtree(self.at("tree/crates/disk/out"))
+        self.builds("what was made of a crate is gone: all libraries above are made over what is there now", 0,
+                    "lib disk\nlib oplog\n")
 
     def test_refused(self):
         self.put_source("waffd", "wrong")
