@@ -1,5 +1,4 @@
-//! The theorem's laws: of a service that is killed, of any number of servers, and of two services. Each does nothing; its contract is the
-//! law.
+//! The theorem's laws: of a service that is killed, of any number of servers, and of two services.
 ghost use Rattle.std.specs.Prelude.{◌≡◌, ℕ, List, Ok, Option};
 ghost use Rattle.affinity.specs.declared.geometry.Geometry.{Geometry};
 ghost use Rattle.recovery.specs.Recovery.{recovered_state};

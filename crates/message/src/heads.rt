@@ -1,5 +1,5 @@
-//! The head of a line: the kind and the numbers of its message, the data not decoded; and the message of a head. In functions that work
-//! behind the keyword the argument `line` is the rest of the line.
+//! The head of a line: the kind and the numbers of its message, the data not decoded; the message of a head; and its data, decoded where it
+//! is to be. In functions that work behind the keyword the argument `line` is the rest of the line.
 
 ghost use Rattle.std.specs.Prelude.{◌≡◌, ◌↔◌, [], Option, MatchOption, Some, None, unwrap_or};
 ghost use Rattle.protocol.specs.declared.messages.Msg.{Msg};

@@ -1,4 +1,4 @@
--- The lemma `read_is_a_state` of `Walk`.
+-- The lemma `read_is_a_state` of `GoodPieces`.
 use Rattle.image.proofs.GoodPieces.{read_is_a_state}
 use Rattle.image.proofs.laws.what_is_read_is_a_state.Goals as goal
 
