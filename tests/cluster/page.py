@@ -29,7 +29,7 @@ def emulated(text):
 
 
 class Page:
-    """The pages that an operator works by, one behind the other."""
+    """The pages that an operator works by, as one text."""
 
     PAGES = ("failover.md", "failover-operating.md")
 
