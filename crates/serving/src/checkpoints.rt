@@ -45,6 +45,13 @@ impl CheckpointTrigger {
         }
     }
 
+    /// How many records were logged since the last checkpoint began, of those whose messages are answered.
+    pub(crate) fn logged_since(&self) -> u64
+        ensures { result ≡ self.now.logged_since }
+    {
+        self.logged_since
+    }
+
     /// A checkpoint has begun: the count starts anew.
     fn restart(&mut self)
         ensures { (self.new.every ≡ self.old.every) × (self.new.logged_since ≡ 0) }

@@ -31,20 +31,23 @@ impl<'c, R: Read, D: Disk, L: ReplySink<D>> Session<'c, R, D, L> {
     }
 
     /// Logs what ran in one go, answers it, and retires the lines that are next in order. A checkpoint in progress goes on by one step
-    /// after each answer. Returns whether anything was logged or answered.
+    /// after each answer. Where a change was logged, the answers are sent at once, so that the lines read in place of theirs go into the
+    /// next batch: else it would be smaller, at the same two syncs. Returns whether anything was logged or answered.
     pub(crate) fn log_and_reply<W: GatedRuntime>(&mut self, rt: &W) -> Result<bool, Halted>
         ensures session_step { IsSessionStep self.old self.new result }
         ensures last { OnOk result (can_retire self.new.reorder_buffer.lines ≡ false) }
         ensures none { IfOk result (λ moved. IsFalse moved → HasLoggedNothing self.old self.new) }
         ensures steps { IfOk result (λ moved. steps_ahead self.new + cond moved 1 0 ≤ steps_ahead self.old) }
     {
+        let logged_before = self.trigger.logged_since();
         let mut moved = self.log_what_ran()? > 0;
         while self.answer_first(rt) {
             moved = true;
             self.advance_checkpoint()?;
         }
         self.retire_ready()?;
-        if self.is_half_unsent() {
+        let has_logged_change = self.trigger.logged_since() != logged_before;
+        if has_logged_change || self.is_half_unsent() {
             self.flush_replies()?;
         }
         Ok(moved)
