@@ -52,10 +52,12 @@ pub(crate) fn best_in(
         ≡ earliest_from (has_room log_has_room) ready_table.now (CHUNK * chunk) CHUNK (ready_in ready_table.now best) }
 {
     let mut found = best;
+    let mut bound = ready_table.bound(best);
     for number in chunk * CHUNK..(chunk + 1) * CHUNK {
         // Most are skipped for their rank (the ticket) alone: one above the bound can't be earlier.
-        if ready_table.rank(number) <= ready_table.bound(found) {
+        if ready_table.rank(number) <= bound {
             found = better(log_has_room, ready_table, found, number);
+            bound = ready_table.bound(found);
         }
     }
     found

@@ -131,6 +131,9 @@ impl ReadyTable {
         ensures others { StayRight messages.now.held messages.now.waiting self.old self.new }
     {
         let ready = messages.ready_at(number);
+        if ready.is_none() && self.at(number).is_none() {
+            return; // as mostly
+        }
         // The table lacks only numbers that no affinity has, where no message waits.
         if number < self.len() {
             self.set(number, ready);
