@@ -126,7 +126,7 @@ other_order = refl
 
 -- ---- the constants of the ready table
 
-chunk : CHUNK ≡ 16
+chunk : CHUNK ≡ 8
 chunk = refl
 
 last_rank : LAST_RANK ≡ 18446744073709551614

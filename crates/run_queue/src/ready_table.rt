@@ -13,7 +13,7 @@ use std::alloc::{AllocError, Global};
 use std::marker::Model;
 
 /// How many affinity numbers there are in a chunk, a part of the table.
-pub(crate) const CHUNK: usize = 16;
+pub(crate) const CHUNK: usize = 8;
 
 /// The rank where no message is ready.
 pub(crate) const NO_RANK: u64 = u64::MAX;
