@@ -5,6 +5,7 @@ ghost use Rattle.protocol.specs.Grammar.{message_of};
 ghost use Rattle.scheduler.specs.Calls.{ArrivesByLine};
 
 use crate::Core;
+use affinity::Kind;
 use disk::Disk;
 use histories::ArriveRefusal;
 use message::{Head, decode_block, head_of_line};
@@ -12,7 +13,8 @@ use protocol::{BLOCK_SIZE, Block, Msg};
 
 impl<D: Disk> Core<D> {
     /// Takes in the message that a line (without its newline) encodes, and gives it the next ticket, as `arrive` does. `None` if the line
-    /// is no message; then nothing changes. A message is built in place: its block is copied once, into its slot.
+    /// is no message; then nothing changes. A `write` is built in place: its block is copied once, into its slot. So is a `read`, the
+    /// commonest message beside it, since a `Msg` that is handed on is copied with room for a block.
     pub fn arrive_line(&mut self, line: &[u8]) -> Result<Option<u64>, ArriveRefusal>
         ensures arrives { ArrivesByLine self.old self.new (message_of line.now) result }
         ensures geometry { self.new.geometry ≡ self.old.geometry }
@@ -27,6 +29,11 @@ impl<D: Disk> Core<D> {
                 }
                 let [a, v, f, b] = numbers;
                 let message = Msg::Write(a, v, f, b, content);
+                self.arrive(&message).map(Some)
+            }
+            Head::WithoutData(Kind::Read, numbers) => {
+                let [a, v, f, b] = numbers;
+                let message = Msg::Read(a, v, f, b);
                 self.arrive(&message).map(Some)
             }
             head => match &head.message() {
