@@ -72,10 +72,12 @@ impl RunQueue {
         ensures { result ≡ next_queued log_has_room self.now.held self.now.waiting }
     {
         let mut best = self.ready_table.len(); // none is ready there
+        let mut bound = self.ready_table.bound(best);
         for chunk in 0..chunks_of(self.messages.geometry()) {
             // A rank is a ready message's ticket. A chunk whose least rank is above the best one so far is skipped.
-            if self.ready_table.least(chunk) <= self.ready_table.bound(best) {
+            if self.ready_table.least(chunk) <= bound {
                 best = best_in(log_has_room, &self.ready_table, best, chunk);
+                bound = self.ready_table.bound(best);
             }
         }
         self.ready_table.at(best).copied()
