@@ -58,10 +58,10 @@
 #define D_STOPPING 3
 #define D_STOPPED  4    /* after its wake_all */
 
-byte place[P];          /* words 6.. */
+byte place[P];          /* words 48.. */
 bit  STOP;              /* word 0 */
-byte SLEEPERS;          /* word 3 */
-byte SPINNERS;          /* word 4 */
+byte SLEEPERS;          /* word 16 */
+byte SPINNERS;          /* word 17 */
 byte st[W];
 byte dst;
 bit  lent[P];           /* the dispatcher's own flags (DispatchSeat) */
@@ -97,7 +97,7 @@ byte own[P] = 1;
 #define ALLP(f) f(0); f(1); f(2)
 #endif
 
-/* The event counts (words 1 and 2), SLEPT_AT (word 5) and the numbers that threads keep of them. */
+/* The event counts (words 1 and 32), SLEPT_AT (word 33) and the numbers that threads keep of them. */
 #ifdef EXACT
 /* Counters without end, by all that the code asks of them: which numbers are equal. */
 bit same[W];            /* OFFER_EVENT == seen of worker i */
@@ -121,7 +121,7 @@ bit fd[W];              /* seen of the dispatcher == found of worker i */
 #define D_FOUND(i)  (fs[i])
 #define D_FORGET(i) fs[i] = 0; fd[i] = 0
 #else
-byte OE, DE, SLEPT_AT;  /* words 1, 2, 5 */
+byte OE, DE, SLEPT_AT;  /* words 1, 32, 33 */
 byte seen[W], found[W], dseen;
 #define O_READ(i)   seen[i] = OE
 #define O_FORGET(i) seen[i] = 0

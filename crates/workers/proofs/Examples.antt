@@ -2,7 +2,7 @@
 use Rattle.std.proofs.Common.{◌≡◌, refl}
 use Rattle.workers.specs.declared.words.TheConstants.{FIRST_PLACE, MOST_PLACES, EMPTY, OFFERED, CLAIMED, DELIVERED}
 
-first_place : FIRST_PLACE ≡ 6
+first_place : FIRST_PLACE ≡ 48
 first_place = refl
 
 most_places : MOST_PLACES ≡ 64

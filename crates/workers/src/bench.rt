@@ -1,6 +1,6 @@
 //! The bench: its table, and what the dispatcher does there.
 //!
-//! The table has a word (its state) and a slot (a job cell) for each place, and six words before these (`words.rt`). A slot lies in the
+//! The table has a word (its state) and a slot (a job cell) for each place, and some words before these (`words.rt`). A slot lies in the
 //! table or belongs to one seat, which reaches only the first of its slots: so the dispatcher's are rotated (`rotate_to`).
 //! In clauses a seat has its table (`table_id`) and `me`. `me.0` is its role: `Dispatcher n lent` says that n slots are still to be taken
 //! from the table, and which jobs are lent. `me.1` are the slots that it has, the one taken last first.
