@@ -253,7 +253,7 @@ first_at keeps {o} {p} {places} {input} r unused =
     let s : Start = record { core = p.core; places = places; input = input; before = p.sent } in
     begins_at keeps o s p r.start_is (record {
       start = record { idle = r.idle; none_in_doubt = r.none_in_doubt };
-      fits = r.fits;
+      fits = omega (arith, r.fits);
       holds = holds_first p.core p.dispatch_seat.lent places unused.none_lent r.idle;
       places = ap (λ (l : List (Option JobView)). length l) unused.none_lent ∙ length-replicate places None ∙ sym unused.slots;
       some_place = subst (λ (n : ℕ). 0 < n) (sym unused.slots) unused.some_place;

@@ -19,8 +19,8 @@ use Rattle.scheduler.specs.Calls.{IsLogStep}
 use Rattle.serving.specs.Checkpoints.{IsDue}
 use Rattle.serving.specs.DispatchesTo.{DispatchesTo, IsBlocked, asks_for_checkpoint}
 use Rattle.serving.specs.Runs.{lent_hand}
-use Rattle.serving.specs.SessionSteps.{Advanced, Began, CallsForCheckpoint, CanRead, CheckpointStep, HasGoneOn, HasLoggedNothing, HasMoved, IsBlockedIn, KeepsCoreState, MovedCheckpoint, Rests, TookStep, Waited}
-use Rattle.serving.specs.Session.{NoneUnanswered, SessionView, steps_ahead}
+use Rattle.serving.specs.SessionSteps.{Advanced, Began, CallsForCheckpoint, CanRead, CheckpointStep, HasGoneOn, HasLoggedNothing, HasMoved, IsBlockedIn, KeepsCoreState, MovedCheckpoint, TookStep, Waited}
+use Rattle.serving.specs.Session.{SessionView, steps_ahead}
 use Rattle.serving.specs.declared.checkpoints.CheckpointTrigger.{CheckpointTrigger}
 use Rattle.serving.specs.declared.session.Activity.{Activity}
 use Rattle.serving.specs.declared.session.Activity.TheVariants as activities
@@ -153,10 +153,9 @@ module _ (p q r s : SessionView) (dispatch : HasMoved p q) where
   since_before few later nothing (MovedCheckpoint step) = checkpoint_moves later nothing step
   since_before few later nothing (Waited in_flight flushed none) = Waited in_flight flushed none
   since_before few later nothing (CanRead can) = CanRead can
-  since_before few later nothing (Rests none) = Rests none
 
   pub has_gone_on : (moved : Bool) (activity : Activity) → steps_ahead r + cond moved 1 0 ≤ steps_ahead q → (IsFalse moved → HasLoggedNothing q r)
-      → steps_ahead s ≤ steps_ahead r → (activity ≡ activities.Busy → HasGoneOn r s) → (activity ≡ activities.Idle → NoneUnanswered s) → HasGoneOn p s
-  has_gone_on true activity less nothing few busy idle = let before = moved_ahead p q dispatch in TookStep (omega (arith, less, few, before))
-  has_gone_on false activities.Busy less nothing few busy idle = since_before (omega (arith, less)) few (nothing refl) (busy refl)
-  has_gone_on false activities.Idle less nothing few busy idle = Rests (idle refl)
+      → steps_ahead s ≤ steps_ahead r → (activity ≡ activities.Busy → HasGoneOn r s) → activity ≡ activities.Busy → HasGoneOn p s
+  has_gone_on true activity less nothing few busy is = let before = moved_ahead p q dispatch in TookStep (omega (arith, less, few, before))
+  has_gone_on false activities.Busy less nothing few busy is = since_before (omega (arith, less)) few (nothing refl) (busy refl)
+  has_gone_on false activities.Idle less nothing few busy is = cc

@@ -8,7 +8,7 @@ use Rattle.serving.specs.DispatchesTo.{IsBlocked, NoneInFlight}
 use Rattle.serving.specs.declared.dispatch.Blocked.{Blocked}
 use Rattle.serving.specs.declared.dispatch.Blocked.TheVariants as blocked
 use Rattle.serving.specs.declared.session.Halted.{Halted}
-use Rattle.serving.specs.Session.{SessionView, NoneUnanswered, steps_ahead, CanReadLine}
+use Rattle.serving.specs.Session.{SessionView, steps_ahead, CanReadLine}
 
 -- Why no more is read, and whether the output has failed, are as before.
 abbrev pub KeepsReadEndAndOutputFailed : SessionView → SessionView → Type 0
@@ -61,8 +61,6 @@ pub data HasGoneOn (old new : SessionView) : Type 0 where
       → HasGoneOn old new
   -- a line is buffered, and can be read
   CanRead : (can : CanReadLine new) → HasGoneOn old new
-  -- no line is unanswered
-  Rests : (none : NoneUnanswered new) → HasGoneOn old new
 
 -- The output has failed, or else the device.
 abbrev pub HasHalted : SessionView → Type 0

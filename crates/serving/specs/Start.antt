@@ -1,5 +1,5 @@
 -- Statement for engineers: What the call of a server begins with, and when it may begin.
-use Rattle.std.specs.Prelude.{ℕ, List, replicate, Option, None, [], ◌≡◌, ◌≤◌, false, Some}
+use Rattle.std.specs.Prelude.{ℕ, List, replicate, Option, None, [], ◌≡◌, false, Some}
 use Rattle.scheduler.specs.Machine.{MachineView}
 use Rattle.scheduler.specs.CoreView.{CoreView, core_state_of}
 use Rattle.serving.specs.Runs.{machine_with_jobs}
@@ -24,7 +24,7 @@ pub record IsIdleStart (s : Start) : Type 0 where
   pub none_in_doubt : s.core.doubt ≡ []
 
 -- A call of `serve` may begin at this start: no message is in the core or its `doubt`, the device has not failed, and the reorder buffer is
--- empty and has room for no more lines than the core has slots. `sent_at`: the device is as the sink has it.
+-- empty and has room for as many lines as the core has slots. `sent_at`: the device is as the sink has it.
 pub record CanBegin (start : Option Start) (core : CoreView) (places : ℕ) (input sent : Option (List ℕ)) (sent_at : Medium)
     (reorder_buffer : ReorderBufferView) : Type 0 where
   pub start_is : start ≡ Some (record { core = core; places = places; input = input; before = sent })
@@ -33,4 +33,4 @@ pub record CanBegin (start : Option Start) (core : CoreView) (places : ℕ) (inp
   pub works : core.failed ≡ false
   pub none_in_doubt : core.doubt ≡ []
   pub none : reorder_buffer.lines ≡ []
-  pub fits : reorder_buffer.slots ≤ core.slots
+  pub fits : reorder_buffer.slots ≡ core.slots

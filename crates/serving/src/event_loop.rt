@@ -48,8 +48,9 @@ impl<'c, R: Read, D: Disk, L: ReplySink<D>> Session<'c, R, D, L> {
 
     /// Why the loop ends, once no more is read, each line that was read is retired, and no checkpoint is in progress. `None`: it goes on.
     fn ended(&self) -> Option<ReadEnd>
-        ensures { IfSome result
+        ensures some { IfSome result
             (λ read_end. (self.now.read_end ≡ Some read_end) × (self.now.reorder_buffer.lines ≡ []) × (self.now.core.pieces_left ≡ None)) }
+        ensures exact { self.now.reorder_buffer.lines ≡ [] → self.now.core.pieces_left ≡ None → result ≡ self.now.read_end }
     {
         if self.reorder_buffer.len() == 0 && self.core.pieces_left().is_none() {
             self.read_end

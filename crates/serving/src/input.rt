@@ -139,6 +139,7 @@ impl<'c, R: Read, D: Disk, L: ReplySink<D>> Session<'c, R, D, L> {
     fn wait_for_line(&mut self) -> Activity
         requires none_unanswered { NoneUnanswered self.old }
         requires safe { IsKillSafe D.keeps L.start self.old.sent self.old.sent_at self.old.core }
+        ensures waited { result ≡ activities.Idle → self.new.read_end ≡ None → self.new.outstanding < self.new.reorder_buffer.slots → ⊥ }
         ensures output_failed { self.new.output_failed ≡ self.old.output_failed }
         ensures slots { self.new.reorder_buffer.slots ≡ self.old.reorder_buffer.slots }
     {
@@ -159,6 +160,8 @@ impl<'c, R: Read, D: Disk, L: ReplySink<D>> Session<'c, R, D, L> {
         requires none_unanswered { last ≡ activities.Idle → NoneUnanswered self.old }
         requires safe { IsKillSafe D.keeps L.start self.old.sent self.old.sent_at self.old.core }
         ensures output_failed { self.new.output_failed ≡ self.old.output_failed }
+        ensures waited { last ≡ activities.Idle → result ≡ activities.Idle → self.new.read_end ≡ None
+            → self.new.outstanding < self.new.reorder_buffer.slots → ⊥ }
         ensures all_read { CanReadLine self.new → ⊥ }
     {
         let mut read = match last {

@@ -79,7 +79,7 @@ impl<'c, R: Read, D: Disk, L: ReplySink<D>> Session<'c, R, D, L> {
     ) -> Result<Activity, Halted>
         ensures session_step { IsSessionStep self.old self.new result }
         ensures idle { IfOk result (λ activity. activity ≡ activities.Idle → NoneUnanswered self.new) }
-        ensures goes_on { OnOk result (read ≡ activities.Idle → HasGoneOn self.old self.new) }
+        ensures goes_on { IfOk result (λ activity. read ≡ activities.Idle → activity ≡ activities.Busy → HasGoneOn self.old self.new) }
     {
         let why = self.dispatch_and_collect();
         let moved = self.log_and_reply(rt)?;

@@ -27,8 +27,8 @@ returns-clause-idle g c idle =
     )
 
 pub returns-clause-goes_on : goal.returns-clause-goes_on
-returns-clause-goes_on g c _ = has_gone_on _ _ _ _ c.dispatch_and_collect-why.ensures.moves c.in_ok-moved.moved c.in_ok-activity.activity
-    c.in_ok-moved.ensures.steps c.in_ok-moved.ensures.none c.in_ok-activity.ensures.steps c.in_ok-activity.ensures.goes_on (returns-clause-idle g c)
+returns-clause-goes_on g c _ busy = has_gone_on _ _ _ _ c.dispatch_and_collect-why.ensures.moves c.in_ok-moved.moved c.in_ok-activity.activity
+    c.in_ok-moved.ensures.steps c.in_ok-moved.ensures.none c.in_ok-activity.ensures.steps c.in_ok-activity.ensures.goes_on busy
 
 pub flush_then_wait-requires : goal.flush_then_wait-requires
 flush_then_wait-requires g c = record {
