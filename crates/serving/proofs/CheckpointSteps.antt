@@ -8,7 +8,7 @@ use Rattle.histories.specs.CoreState.{Entry, CoreState, held}
 use Rattle.histories.specs.declared.outcomes.PointRefusal.{PointRefusal}
 use Rattle.histories.specs.declared.outcomes.PointRefusal.TheVariants as points
 use Rattle.scheduler.specs.Calls.{IsCheckpointStep}
-use Rattle.serving.specs.SessionSteps.{Began, CallsForCheckpoint, CheckpointStep}
+use Rattle.serving.specs.SessionSteps.{Began, CallsForCheckpoint, CheckpointStep, StartsAfresh}
 use Rattle.serving.specs.Session.{SessionView}
 use Rattle.serving.specs.declared.session.Halted.{Halted}
 
@@ -45,11 +45,11 @@ stands_still A B C asked (Err y) begun keeps on = tt
 
 -- Where one has begun, there was a reason, and its count starts anew.
 pub begins : (B : Type 0) (old new : SessionView) → CallsForCheckpoint old → old.core.pieces_left ≡ None → (result : Result Bool Halted)
-    → IfOk result (λ it. MatchBool it ((n : ℕ) × (new.core.pieces_left ≡ Some n)) B) → IfOk result (λ it. IsTrue it → new.trigger.logged_since ≡ 0)
+    → IfOk result (λ it. MatchBool it ((n : ℕ) × (new.core.pieces_left ≡ Some n)) B) → IfOk result (λ it. IsTrue it → StartsAfresh old new)
     → IfOk result (λ it. IsTrue it → CheckpointStep old new)
-begins B old new reason none (Ok true) begun restarted = λ e. Began reason none begun.0 begun.1 (restarted e)
-begins B old new reason none (Ok false) begun restarted = λ e. absurd (true≢false (sym e))
-begins B old new reason none (Err y) begun restarted = tt
+begins B old new reason none (Ok true) begun fresh = λ e. Began reason none begun.0 begun.1 (fresh e)
+begins B old new reason none (Ok false) begun fresh = λ e. absurd (true≢false (sym e))
+begins B old new reason none (Err y) begun fresh = tt
 
 -- ---- where a point is to begin and none is in progress
 

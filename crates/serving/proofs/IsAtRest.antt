@@ -1,8 +1,9 @@
 -- Where a session is at rest, nothing waits in its core: the message with the least ticket could be dispatched, or lacks only room in the
 -- log. So each line that was read is retired.
-use Rattle.std.proofs.Common.{◌≡◌, ◌≢◌, ℕ, ◌<◌, zero, suc, Bool, true, false, List, [], ◌∷◌, ◌++◌, Option, Some, None, refl, ap, sym, ◌∙◌, length, replicate, arith}
+use Rattle.std.proofs.Common.{◌≡◌, ◌≢◌, ℕ, ◌<◌, zero, suc, Bool, true, false, List, [], ◌∷◌, ◌++◌, Option, Some, None, refl, ap, sym, ◌∙◌, length, map, replicate, arith}
 use Rattle.std.specs.Prelude.{cond, IfSome, is_none, position}
 use Rattle.std.proofs.lemmas.Bool.{true≢false, lt-ltb}
+use Rattle.std.proofs.lemmas.List.{length-append}
 use Rattle.std.proofs.lemmas.Option.{none-some}
 use Rattle.affinity.specs.declared.geometry.Geometry.{Geometry}
 use Rattle.histories.proofs.CanGoOn.{needs}
@@ -17,7 +18,10 @@ use Rattle.serving.specs.DispatchesTo.{IsBlocked, asks_for_checkpoint}
 use Rattle.serving.specs.SessionEnds.{IsAtRest}
 use Rattle.serving.specs.SessionSteps.{KeepsCoreState, HasLoggedNothing, HasOnlySent}
 use Rattle.serving.specs.SessionInvariant.{SessionInvariantFrom}
-use Rattle.serving.specs.Session.{SessionView}
+use Rattle.protocol.specs.Replies.{reply_text}
+use Rattle.meaning.specs.Output.{joined}
+use Rattle.serving.specs.Lines.{Completed, HaveAnswers, Line, NoMessage, OutOfRange, Pending, answer_text, has_answer}
+use Rattle.serving.specs.Session.{NoneUnanswered, SessionView}
 use Rattle.serving.specs.Start.{Start}
 use Rattle.serving.specs.declared.dispatch.Blocked.{Blocked}
 use Rattle.serving.specs.declared.dispatch.Blocked.TheVariants as blocked
@@ -64,6 +68,26 @@ retired_at_rest keeps o p u why r = ask keeps o p u (λ s u.
     let some = u.some_place in
     let idle = idle_at_rest p u.holds.sound (omega (arith, places, some)) (none_out u.idle h.serving.segment r.none_in_flight) why r in
     no_line u.idle idle p.reorder_buffer.lines h r.last)
+
+-- ---- no line is outstanding
+
+some_text : (line : Line) → has_answer line ≡ true → 0 < length (answer_text line)
+some_text (Pending ticket) e = absurd (true≢false (sym e))
+some_text (Completed ticket reply) e = omega (arith, length-append (reply_text reply) (10 ∷ []))
+some_text NoMessage e = omega arith
+some_text OutOfRange e = omega arith
+
+none_waiting : (lines : List Line) → HaveAnswers lines → joined (map answer_text lines) ≡ [] → length lines ≡ 0
+none_waiting [] have none = refl
+none_waiting (line ∷ lines) have none =
+    absurd (omega (arith, ap (λ (l : List ℕ). length l) none, length-append (answer_text line) (joined (map answer_text lines)), some_text line have.0))
+
+-- Where no line is unanswered, none is outstanding.
+pub none_outstanding : (keeps : Type 0) (o : Option Start) (p : SessionView) → SessionInvariantFrom keeps o p → NoneUnanswered p → p.outstanding ≡ 0
+none_outstanding keeps o p u none = ask keeps o p u (λ s u.
+    let h = (progress_at_end keeps s p p.read_end u.reads).2 in
+    let waiting = none_waiting h.waiting h.have_answers (sym h.reply_buffer_is ∙ none.1) in
+    omega (arith, waiting, h.counted, ap (λ (l : List Line). length l) none.0))
 
 -- ---- how a session comes to rest
 

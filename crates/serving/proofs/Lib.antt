@@ -28,6 +28,8 @@ mod KeepsSent
 mod ServingSince
 mod SessionInvariant
 mod StepsAhead
+mod Arrivals
+mod TurnsLeft
 mod IsAtRest
 mod ServePromise
 mod SessionEnds

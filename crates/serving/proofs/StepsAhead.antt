@@ -7,7 +7,7 @@ use Rattle.std.proofs.lemmas.List.Quantifiers.{position-Some}
 use Rattle.std.proofs.lemmas.List.Sums.{sum_by-cons, sum_by-set}
 use Rattle.affinity.specs.declared.geometry.Geometry.{Geometry}
 use Rattle.histories.proofs.Lists.{length-picked}
-use Rattle.histories.specs.CoreState.{CoreState, Entry, Replied}
+use Rattle.histories.specs.CoreState.{CoreState, Entry, Replied, held}
 use Rattle.histories.specs.Eligible.{is_eligible}
 use Rattle.histories.specs.MachineState.{Hand, has_job}
 use Rattle.histories.specs.Events.{find_in_flight, give_back}
@@ -19,7 +19,7 @@ use Rattle.scheduler.specs.Calls.{IsLogStep}
 use Rattle.serving.specs.Checkpoints.{IsDue}
 use Rattle.serving.specs.DispatchesTo.{DispatchesTo, IsBlocked, asks_for_checkpoint}
 use Rattle.serving.specs.Runs.{lent_hand}
-use Rattle.serving.specs.SessionSteps.{Advanced, Began, CallsForCheckpoint, CanRead, CheckpointStep, HasGoneOn, HasLoggedNothing, HasMoved, IsBlockedIn, KeepsCoreState, MovedCheckpoint, TookStep, Waited}
+use Rattle.serving.specs.SessionSteps.{Advanced, Began, CallsForCheckpoint, CanRead, HasGoneOn, HasLoggedNothing, HasMoved, IsBlockedIn, KeepsCoreState, MovedCheckpoint, Rests, StandsStill, TookStep, Waited}
 use Rattle.serving.specs.Session.{SessionView, steps_ahead}
 use Rattle.serving.specs.declared.checkpoints.CheckpointTrigger.{CheckpointTrigger}
 use Rattle.serving.specs.declared.session.Activity.{Activity}
@@ -134,28 +134,38 @@ module _ (q r : SessionView) (why : Option Blocked) where
 -- ---- an iteration
 
 -- from p by a dispatch to q, from there by what was logged and answered to r, and then to s
-module _ (p q r s : SessionView) (dispatch : HasMoved p q) where
+module _ (p q r s : SessionView) (dispatch : HasMoved p q) (activity : Activity) where
+  -- nothing has changed from p to r
+  since_kept : KeepsCoreState p q → HasLoggedNothing q r → HasGoneOn r s activity → HasGoneOn p s activity
+  since_kept kept nothing (TookStep less) =
+      let few = keeps_ahead p r (keep_on p q r kept nothing.keeps) in TookStep (omega (arith, less, few))
+  since_kept kept nothing (MovedCheckpoint (Advanced fewer count room)) =
+      let core = keep_on p q r kept nothing.keeps in
+      MovedCheckpoint (Advanced (fewer ∙ ap (λ (w : CoreState). points_left w.pieces_left) core.1) (count ∙ nothing.trigger ∙ dispatch.trigger)
+      (room ∙ ap (λ (w : CoreState). w.room) core.1))
+  since_kept kept nothing (MovedCheckpoint (Began reason none n begun fresh)) =
+      let core = keep_on p q r kept nothing.keeps in
+      MovedCheckpoint (Began (calls_still p r core (nothing.trigger ∙ dispatch.trigger) reason) (sym (ap (λ (w : CoreState). w.pieces_left) core.1) ∙ none) n begun
+      (record { none_held = sym (ap (λ (w : CoreState). held w) core.1) ∙ fresh.none_held; counted = fresh.counted; room = fresh.room }))
+  since_kept kept nothing (Waited in_flight flushed none still) =
+      Waited in_flight flushed none (keep_on p r s (keep_on p q r kept nothing.keeps) still.0, still.1 ∙ nothing.trigger ∙ dispatch.trigger)
+  since_kept kept nothing (CanRead can still) =
+      CanRead can (keep_on p r s (keep_on p q r kept nothing.keeps) still.0, still.1 ∙ nothing.trigger ∙ dispatch.trigger)
+  since_kept kept nothing (Rests idle still) =
+      Rests idle (keep_on p r s (keep_on p q r kept nothing.keeps) still.0, still.1 ∙ nothing.trigger ∙ dispatch.trigger)
+
   -- a message was dispatched or came back; or nothing has changed so far
-  checkpoint_moves : steps_ahead s ≤ steps_ahead r → HasLoggedNothing q r → CheckpointStep r s → HasGoneOn p s
-  checkpoint_moves few nothing (Advanced fewer count) =
-      let same = ap points_left (ap (λ (w : CoreState). w.pieces_left) nothing.keeps.1 ∙ dispatch.pieces_left) in
-      MovedCheckpoint (Advanced (omega (arith, fewer, same)) (count ∙ nothing.trigger ∙ dispatch.trigger))
-  checkpoint_moves few nothing (Began reason none n begun restarted) =
-      let before = keeps_ahead q r nothing.keeps in
-      ⊎_elim (λ (less : steps_ahead q < steps_ahead p). TookStep (omega (arith, less, few, before)))
-      (λ (kept : KeepsCoreState p q).
-      let same = ap (λ (w : CoreState). w.pieces_left) nothing.keeps.1 ∙ dispatch.pieces_left in
-      MovedCheckpoint (Began (calls_still p r (keep_on p q r kept nothing.keeps) (nothing.trigger ∙ dispatch.trigger) reason)
-      (sym same ∙ none) n begun restarted)) dispatch.moved
+  since_before : steps_ahead r ≤ steps_ahead q → steps_ahead s ≤ steps_ahead r → HasLoggedNothing q r → HasGoneOn r s activity → HasGoneOn p s activity
+  since_before few later nothing on = ⊎_elim (λ (less : steps_ahead q < steps_ahead p). TookStep (omega (arith, less, few, later)))
+      (λ (kept : KeepsCoreState p q). since_kept kept nothing on) dispatch.moved
 
-  since_before : steps_ahead r ≤ steps_ahead q → steps_ahead s ≤ steps_ahead r → HasLoggedNothing q r → HasGoneOn r s → HasGoneOn p s
-  since_before few later nothing (TookStep less) = let before = moved_ahead p q dispatch in TookStep (omega (arith, less, few, before))
-  since_before few later nothing (MovedCheckpoint step) = checkpoint_moves later nothing step
-  since_before few later nothing (Waited in_flight flushed none) = Waited in_flight flushed none
-  since_before few later nothing (CanRead can) = CanRead can
+  pub has_gone_on : (moved : Bool) → steps_ahead r + cond moved 1 0 ≤ steps_ahead q → (IsFalse moved → HasLoggedNothing q r)
+      → steps_ahead s ≤ steps_ahead r → HasGoneOn r s activity → HasGoneOn p s activity
+  has_gone_on true less nothing few on = let before = moved_ahead p q dispatch in TookStep (omega (arith, less, few, before))
+  has_gone_on false less nothing few on = since_before (omega (arith, less)) few (nothing refl) on
 
-  pub has_gone_on : (moved : Bool) (activity : Activity) → steps_ahead r + cond moved 1 0 ≤ steps_ahead q → (IsFalse moved → HasLoggedNothing q r)
-      → steps_ahead s ≤ steps_ahead r → (activity ≡ activities.Busy → HasGoneOn r s) → activity ≡ activities.Busy → HasGoneOn p s
-  has_gone_on true activity less nothing few busy is = let before = moved_ahead p q dispatch in TookStep (omega (arith, less, few, before))
-  has_gone_on false activities.Busy less nothing few busy is = since_before (omega (arith, less)) few (nothing refl) (busy refl)
-  has_gone_on false activities.Idle less nothing few busy is = cc
+-- what is done, or that the session is at rest
+pub goes_or_rests : (old new : SessionView) (activity : Activity) → (activity ≡ activities.Busy → HasGoneOn old new activity)
+    → (activity ≡ activities.Idle → StandsStill old new) → HasGoneOn old new activity
+goes_or_rests old new activities.Busy busy idle = busy refl
+goes_or_rests old new activities.Idle busy idle = Rests refl (idle refl)

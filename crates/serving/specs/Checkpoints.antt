@@ -1,4 +1,4 @@
--- Inner: When a checkpoint is due.
+-- Statement for engineers: When a checkpoint is due.
 use Rattle.std.specs.Prelude.{◌≡◌, ◌≢◌, ◌+◌, ◌-◌, ◌^◌, ◌≤◌, ℕ, Option, None, min}
 use Rattle.protocol.specs.declared.replies.Reply.{Reply}
 use Rattle.protocol.specs.declared.replies.Reply.TheVariants as replies

@@ -21,3 +21,4 @@ pub mod SessionInvariant
 pub mod View
 pub mod Restart
 pub mod Kill
+pub mod Turns

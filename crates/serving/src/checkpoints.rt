@@ -6,7 +6,7 @@ ghost use Rattle.histories.specs.CoreState.{held};
 ghost use Rattle.scheduler.specs.CoreView.{core_state_of};
 ghost use Rattle.histories.specs.Progress.{points_left};
 ghost use Rattle.serving.specs.Checkpoints.{IsDue, trigger_after};
-ghost use Rattle.serving.specs.SessionSteps.{CheckpointStep, IsSessionStep, KeepsCoreState, CallsForCheckpoint};
+ghost use Rattle.serving.specs.SessionSteps.{CheckpointStep, IsSessionStep, StandsStill, StartsAfresh, CallsForCheckpoint};
 ghost use Rattle.serving.specs.Session.{steps_ahead};
 
 use crate::output::ReplySink;
@@ -91,6 +91,7 @@ impl<'c, R: Read, D: Disk, L: ReplySink<D>> Session<'c, R, D, L> {
             ((self.new.core.pieces_left ≡ None) × (self.old.core.pieces_left ≡ None))) }
         ensures none { IfOk result (λ moved. IsFalse moved → self.new ≡ self.old) }
         ensures steps { OnOk result (steps_ahead self.new ≡ steps_ahead self.old) }
+        ensures room { OnOk result (self.new.core.room ≡ self.old.core.room) }
         ensures trigger { self.new.trigger ≡ self.old.trigger }
     {
         let Some(pieces_left) = self.core.pieces_left() else {
@@ -116,8 +117,8 @@ impl<'c, R: Read, D: Disk, L: ReplySink<D>> Session<'c, R, D, L> {
         ensures session_step { IsSessionStep self.old self.new result }
         ensures begun { IfOk result (λ it. MatchBool it ((n : ℕ) × (self.new.core.pieces_left ≡ Some n))
             ((self.new.core.pieces_left ≡ None) × (held (core_state_of self.new.core) ≢ []))) }
-        ensures restarted { IfOk result (λ it. IsTrue it → self.new.trigger.logged_since ≡ 0) }
-        ensures stays { IfOk result (λ it. IsFalse it → KeepsCoreState self.old self.new) }
+        ensures fresh { IfOk result (λ it. IsTrue it → StartsAfresh self.old self.new) }
+        ensures stays { IfOk result (λ it. IsFalse it → StandsStill self.old self.new) }
         ensures steps { OnOk result (steps_ahead self.new ≡ steps_ahead self.old) }
         ensures same { (self.new.reorder_buffer ≡ self.old.reorder_buffer) × (self.new.reply_buffer ≡ self.old.reply_buffer) }
     {
@@ -138,7 +139,7 @@ impl<'c, R: Read, D: Disk, L: ReplySink<D>> Session<'c, R, D, L> {
         ensures moved { IfOk result (λ it. IsTrue it → CheckpointStep self.old self.new) }
         ensures same { (self.new.reorder_buffer ≡ self.old.reorder_buffer) × (self.new.reply_buffer ≡ self.old.reply_buffer) }
         ensures steps { OnOk result (steps_ahead self.new ≡ steps_ahead self.old) }
-        ensures stays { IfOk result (λ it. IsFalse it → KeepsCoreState self.old self.new × (self.new.core.pieces_left ≡ None)
+        ensures stays { IfOk result (λ it. IsFalse it → StandsStill self.old self.new × (self.new.core.pieces_left ≡ None)
             × (IsTrue is_asked_for → held (core_state_of self.new.core) ≢ [])) }
     {
         if self.advance_checkpoint()? {

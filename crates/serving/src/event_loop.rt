@@ -5,7 +5,10 @@
 ghost use Rattle.std.specs.Prelude.{◌≡◌, ◌≢◌, Err, IfSome, MatchResult, None, OnOk, Some, [], false};
 ghost use Rattle.oplog.specs.Recovery.{records_in};
 ghost use Rattle.serving.specs.SessionEnds.{EndsBy, HasFinished, end_of};
-ghost use Rattle.serving.specs.SessionSteps.{HasHalted, HasReadNothing, IsSessionStep};
+ghost use Rattle.serving.specs.Kill.{IsKillSafe};
+ghost use Rattle.serving.specs.SessionSteps.{HasHalted, HasReadNothing, IsResting, IsSessionStep};
+ghost use Rattle.serving.specs.Turns.{IsTurned};
+ghost use Rattle.serving.specs.declared.session.Activity.TheVariants as activities;
 ghost use Rattle.serving.specs.declared.session.ReadEnd.TheVariants as ends_of_reading;
 
 use crate::output::ReplySink;
@@ -15,6 +18,15 @@ use disk::Disk;
 use std::io::Read;
 use std::sync::Wait;
 use workers::{DispatcherTask, Gate};
+
+/// What a turn of the loop has come to.
+#[derive(Clone, Copy)]
+pub(crate) enum Turned {
+    /// The loop goes on. This is what the turn has done.
+    Went(Activity),
+    /// The loop ends: no more is read, for this reason, and each line that was read is retired.
+    Ends(ReadEnd),
+}
 
 /// What a server reports where it read no more for this reason: no fault at the end of the input.
 fn reported_for(read_end: ReadEnd) -> Result<(), ServeFault>
@@ -84,21 +96,35 @@ impl<'c, R: Read, D: Disk, L: ReplySink<D>> Session<'c, R, D, L> {
         }
     }
 
+    /// One turn of the loop, after one that did `last`: reads lines, and does what can be done. It waits for input only while no line is
+    /// unanswered (`read_more`). The law `a_session_gets_on` says what follows from its contract for any number of turns.
+    fn turn<W: GatedRuntime>(&mut self, rt: &W, last: Activity) -> Result<Turned, Halted>
+        requires rested { last ≡ activities.Idle → IsResting self.old }
+        requires safe { IsKillSafe D.keeps L.start self.old.sent self.old.sent_at self.old.core }
+        ensures turned { MatchResult result (IsTurned self.old last self.new) (λ _. HasHalted self.new) }
+    {
+        let read = self.read_more(last);
+        if let Some(read_end) = self.ended() {
+            return Ok(Turned::Ends(read_end));
+        }
+        let activity = self.advance(rt, read)?;
+        Ok(Turned::Went(activity))
+    }
+
     /// Reads lines and answers them, until no more is read and the answer to each line that was read is sent: gives why no more is read.
-    /// It waits for input only while no line is unanswered (`read_more`).
     fn run_loop<W: GatedRuntime>(&mut self, rt: &W) -> Result<ReadEnd, Halted>
         ensures served { MatchResult result (HasFinished D.keeps self.new) (λ _. HasHalted self.new) }
     {
         let mut last = Activity::Busy;
         for _ in rt.forever() {
             self.know_kill_safe();
-            let read = self.read_more(last);
-            let ended = self.ended();
-            if let Some(read_end) = ended {
-                self.finish(read_end)?;
-                return Ok(read_end);
+            match self.turn(rt, last)? {
+                Turned::Went(activity) => last = activity,
+                Turned::Ends(read_end) => {
+                    self.finish(read_end)?;
+                    return Ok(read_end);
+                }
             }
-            last = self.advance(rt, read)?;
         }
         unreachable!()
     }

@@ -1,19 +1,23 @@
 //! Reading: takes each line into the reorder buffer, and its message into the core.
 
-ghost use Rattle.std.specs.Prelude.{◌≡◌, ◌≢◌, ◌<◌, ◌↔◌, ◌+◌, ◌++◌, List, [], ◌∷◌, IsTrue, None, OnErr, false, is_none, length, true};
+ghost use Rattle.std.specs.Prelude.{◌≡◌, ◌≢◌, ◌<◌, ◌≤◌, ◌↔◌, ◌+◌, ◌++◌, List, [], ◌∷◌, IsFalse, IsTrue, Option, None, OnErr, false, is_none, length, true};
 ghost use Rattle.histories.specs.Events.{arrive};
+ghost use Rattle.histories.specs.Progress.{steps_to_come};
+ghost use Rattle.parcel.specs.JobRun.{JobView};
 ghost use Rattle.histories.specs.declared.outcomes.ArriveRefusal.TheVariants as arrivals;
 ghost use Rattle.histories.specs.declared.outcomes.Outcome.TheVariants as outcomes;
 ghost use Rattle.protocol.specs.Grammar.{message_of};
 ghost use Rattle.protocol.specs.declared.messages.Msg.{Msg};
 ghost use Rattle.scheduler.specs.CoreView.{core_state_of};
+ghost use Rattle.scheduler.specs.Machine.{machine_of};
 ghost use Rattle.scheduler.specs.declared.hands.HandContent.{HandContent};
 ghost use Rattle.serving.specs.Kill.{IsKillSafe};
 ghost use Rattle.serving.specs.Lines.{Pending};
 ghost use Rattle.serving.specs.TakesLine.{TakesLine};
 ghost use Rattle.reorder_buffer.specs.ReorderBuffer.{AreConsecutive, with_tickets};
-ghost use Rattle.serving.specs.Runs.{HandsHaveJobs};
-ghost use Rattle.serving.specs.Session.{CanReadLine, NoneUnanswered};
+ghost use Rattle.serving.specs.Runs.{HandsHaveJobs, machine_with_jobs};
+ghost use Rattle.serving.specs.Session.{CanReadLine, NoneUnanswered, steps_ahead};
+ghost use Rattle.serving.specs.SessionSteps.{HasTakenLines, HasTakenNone};
 ghost use Rattle.serving.specs.declared.session.Activity.TheVariants as activities;
 
 use crate::output::ReplySink;
@@ -39,6 +43,11 @@ fn take<D: Disk>(
     ensures takes { (hands : List HandContent) → HandsHaveJobs (record { core = core.old; hands = hands })
         → TakesLine D.keeps (record { core = core.old; hands = hands }) reorder_buffer.old.lines
         (record { core = core.new; hands = hands }) reorder_buffer.new.lines (message_of line.now) result }
+    // Whatever is lent, at most the five steps of its message are added.
+    ensures steps { (lent : List (Option JobView)) → steps_to_come (machine_of (machine_with_jobs core.new lent))
+        ≤ steps_to_come (machine_of (machine_with_jobs core.old lent)) + 5 }
+    ensures geometry { core.new.geometry ≡ core.old.geometry }
+    ensures still { OnErr result (core_state_of core.new ≡ core_state_of core.old) }
     ensures slots { reorder_buffer.new.slots ≡ reorder_buffer.old.slots }
     ensures same { OnErr result (reorder_buffer.new ≡ reorder_buffer.old) }
 {
@@ -83,6 +92,8 @@ impl<'c, R: Read, D: Disk, L: ReplySink<D>> Session<'c, R, D, L> {
         ensures slots { self.new.reorder_buffer.slots ≡ self.old.reorder_buffer.slots }
         ensures longer { IsTrue result → length self.new.reorder_buffer.lines ≡ length self.old.reorder_buffer.lines + 1 }
         ensures counted { IsTrue result → self.new.outstanding ≡ self.old.outstanding + 1 }
+        ensures steps { IsTrue result → steps_ahead self.new ≤ steps_ahead self.old + 5 }
+        ensures none { IsFalse result → HasTakenNone self.old self.new }
     {
         prove!(self.outstanding < self.reorder_buffer.slots());
         if self.line_reader.is_drained() {
@@ -139,7 +150,8 @@ impl<'c, R: Read, D: Disk, L: ReplySink<D>> Session<'c, R, D, L> {
     fn wait_for_line(&mut self) -> Activity
         requires none_unanswered { NoneUnanswered self.old }
         requires safe { IsKillSafe D.keeps L.start self.old.sent self.old.sent_at self.old.core }
-        ensures waited { result ≡ activities.Idle → self.new.read_end ≡ None → self.new.outstanding < self.new.reorder_buffer.slots → ⊥ }
+        ensures taken { HasTakenLines self.old self.new result }
+        ensures waited { result ≡ activities.Idle → 0 < self.new.reorder_buffer.slots → self.new.read_end ≢ None }
         ensures output_failed { self.new.output_failed ≡ self.old.output_failed }
         ensures slots { self.new.reorder_buffer.slots ≡ self.old.reorder_buffer.slots }
     {
@@ -160,8 +172,8 @@ impl<'c, R: Read, D: Disk, L: ReplySink<D>> Session<'c, R, D, L> {
         requires none_unanswered { last ≡ activities.Idle → NoneUnanswered self.old }
         requires safe { IsKillSafe D.keeps L.start self.old.sent self.old.sent_at self.old.core }
         ensures output_failed { self.new.output_failed ≡ self.old.output_failed }
-        ensures waited { last ≡ activities.Idle → result ≡ activities.Idle → self.new.read_end ≡ None
-            → self.new.outstanding < self.new.reorder_buffer.slots → ⊥ }
+        ensures taken { HasTakenLines self.old self.new result }
+        ensures waited { last ≡ activities.Idle → result ≡ activities.Idle → 0 < self.new.reorder_buffer.slots → self.new.read_end ≢ None }
         ensures all_read { CanReadLine self.new → ⊥ }
     {
         let mut read = match last {

@@ -3,9 +3,9 @@
 
 ghost use Rattle.std.specs.Prelude.{◌≡◌, ◌≤◌, ◌&&◌, not, IfOk, Option, IsTrue, OnOk, []};
 ghost use Rattle.serving.specs.DispatchesTo.{asks_for_checkpoint};
-ghost use Rattle.serving.specs.SessionSteps.{HasGoneOn, HasOnlySent, IsSessionStep, CallsForCheckpoint};
+ghost use Rattle.serving.specs.SessionSteps.{HasGoneOn, HasOnlySent, IsResting, IsSessionStep, CallsForCheckpoint};
 ghost use Rattle.serving.specs.SessionEnds.{IsAtRest};
-ghost use Rattle.serving.specs.Session.{NoneUnanswered, steps_ahead};
+ghost use Rattle.serving.specs.Session.{steps_ahead};
 ghost use Rattle.serving.specs.declared.dispatch.Blocked.{Blocked};
 ghost use Rattle.serving.specs.declared.session.Activity.TheVariants as activities;
 
@@ -36,7 +36,7 @@ impl<'c, R: Read, D: Disk, L: ReplySink<D>> Session<'c, R, D, L> {
         ensures session_step { IsSessionStep self.old self.new result }
         ensures idle { IfOk result (λ activity. activity ≡ activities.Idle → HasOnlySent self.old self.new is_asked_for) }
         ensures steps { OnOk result (steps_ahead self.new ≤ steps_ahead self.old) }
-        ensures goes_on { IfOk result (λ activity. activity ≡ activities.Busy → HasGoneOn self.old self.new) }
+        ensures goes_on { IfOk result (λ activity. activity ≡ activities.Busy → HasGoneOn self.old self.new activity) }
     {
         self.flush_replies()?;
         if self.can_read() {
@@ -78,8 +78,9 @@ impl<'c, R: Read, D: Disk, L: ReplySink<D>> Session<'c, R, D, L> {
         read: Activity,
     ) -> Result<Activity, Halted>
         ensures session_step { IsSessionStep self.old self.new result }
-        ensures idle { IfOk result (λ activity. activity ≡ activities.Idle → NoneUnanswered self.new) }
-        ensures goes_on { IfOk result (λ activity. read ≡ activities.Idle → activity ≡ activities.Busy → HasGoneOn self.old self.new) }
+        ensures idle { IfOk result (λ activity. activity ≡ activities.Idle → IsResting self.new) }
+        ensures steps { OnOk result (steps_ahead self.new ≤ steps_ahead self.old) }
+        ensures goes_on { IfOk result (λ activity. read ≡ activities.Idle → HasGoneOn self.old self.new activity) }
     {
         let why = self.dispatch_and_collect();
         let moved = self.log_and_reply(rt)?;

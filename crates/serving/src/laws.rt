@@ -1,7 +1,7 @@
 //! What holds of a server that runs many messages at once: laws of the definitions alone. No function here does anything; its
 //! contract is the law.
 
-ghost use Rattle.std.specs.Prelude.{◌≡◌, ◌≢◌, ◌+◌, ◌<◌, ◌≤◌, ◌++◌, ℕ, Bool, true, false, List, [], length, map, take, Option, Some, Ok, Err, IfSome};
+ghost use Rattle.std.specs.Prelude.{◌≡◌, ◌≢◌, ◌+◌, ◌*◌, ◌<◌, ◌≤◌, ◌++◌, ◌∷◌, ℕ, Bool, true, false, List, [], length, map, take, Option, Some, Ok, Err, IfSome};
 ghost use Rattle.std.specs.Io.KnownBytes.{Appends, IsAtEnd};
 ghost use Rattle.std.specs.List.{AllByRecursion, Contains};
 ghost use Rattle.affinity.specs.declared.geometry.Geometry.{Geometry};
@@ -32,13 +32,16 @@ ghost use Rattle.serving.specs.Restart.{BytesRecover, RecoversWritten};
 ghost use Rattle.serving.specs.History.{AreInHistory, RecoversToHistory};
 ghost use Rattle.serving.specs.HoldsSent.{HoldsSent};
 ghost use Rattle.serving.specs.MaySend.{MaySend, SendsNoReply};
+ghost use Rattle.serving.specs.Session.{NoneUnanswered};
 ghost use Rattle.serving.specs.Start.{Start};
 ghost use Rattle.serving.specs.Lines.{AreKnown, Line, admitted, has_answer, answer_text, ticketed};
 ghost use Rattle.scheduler.specs.Machine.{MachineView, machine_of};
 ghost use Rattle.scheduler.specs.DeviceEvents.{device_after, events_of};
 ghost use Rattle.serving.specs.Runs.{RunsBetween, unanswered, HasRunLines};
 ghost use Rattle.serving.specs.HasServed.{HasServed};
+ghost use Rattle.serving.specs.Turns.{AreTurns, IsBounded, LoopView, NoneIsSent, Turn, busy_turns, lines_read, turns_a_line, turns_left};
 ghost use Rattle.serving.specs.declared.server.ServeFault.TheVariants as faults;
+ghost use Rattle.serving.specs.declared.session.Activity.TheVariants as activities;
 
 use disk::Disk;
 
@@ -157,6 +160,22 @@ pub fn what_may_be_sent_is_recovered<D: Disk>()
 pub fn a_kill_loses_no_line_that_was_sent<D: Disk>()
     ensures { (s : Start) (written : Option (List ℕ)) (c : List ℕ) → WasKilled D.keeps s written c → D.keeps
         → RecoversWritten s.core.geometry s.core.slots (committed_in s.core) s.input s.before written c }
+{}
+
+/// A session gets on: a turn of its loop that meets no fault waits for a worker, or leaves less to do but for the lines that it reads. So
+/// of any number of turns, one after the other, only so many wait for no worker: those that are left to do at first (`turns_left`), and a
+/// fixed number for each line that they read (`turns_a_line`). While no answer is sent no more lines are read than may be outstanding, and
+/// the number of such turns has a bound. After a turn that did nothing, in which no line is unanswered, the next one has read a line, if
+/// the loop goes on.
+pub fn a_session_gets_on()
+    ensures turns { (n slots : ℕ) (m : LoopView) (later : List LoopView) (turns : AreTurns m later)
+        → AllByRecursion (IsBounded n slots) (m ∷ later)
+        → busy_turns later ≤ turns_left n m + turns_a_line n * lines_read m later turns }
+    ensures unsent { (n slots : ℕ) (m : LoopView) (later : List LoopView) (turns : AreTurns m later)
+        → AllByRecursion (IsBounded n slots) (m ∷ later) → NoneIsSent m later turns
+        → busy_turns later ≤ turns_left n m + turns_a_line n * slots }
+    ensures idle { (old new : LoopView) (turn : Turn old new) → 0 < old.session.reorder_buffer.slots → old.last ≡ activities.Idle
+        → NoneUnanswered old.session × (old.session.outstanding < turn.mid.outstanding) }
 {}
 
 /// Nothing may be sent too early: as long as each message that has arrived is still in the core, waiting or held, no call may send a reply

@@ -8,6 +8,7 @@ use Rattle.protocol.specs.Grammar.{message_of}
 use Rattle.scheduler.specs.Calls.{ArrivesByLine}
 use Rattle.serving.specs.Lines.{NoMessage, OutOfRange, Pending}
 use Rattle.serving.specs.Runs.{HandsHaveJobs}
+use Rattle.serving.proofs.Arrivals.{few_by_line, still_by_line}
 use Rattle.serving.proofs.TakesLines.{ComesSo, comes_as, next_of_line, not_full}
 use Rattle.serving.proofs.input.take.Given.{Over}
 use Rattle.serving.proofs.input.take.Goals.{After-arrive_line}
@@ -56,3 +57,28 @@ push-requires-clause-order g c ticket is =
     let next = next_of_line old c.arrive_line.new.self (message_of c.args.line.now) c.in-Ok-Some.ticket
     (subst (ArrivesByLine old c.arrive_line.new.self (message_of c.args.line.now)) (c.in-Ok-Some.is ∙ ap Ok c.in-Ok-Some.field-0-is) c.arrive_line.ensures.arrives) in
     subst (λ (t : ℕ). AreConsecutive (with_tickets c.args.reorder_buffer.now.lines ++ Pending t ∷ [])) (sym next) c.requires.order
+
+pub returns-in-Ok-Some-clause-steps : goal.returns-in-Ok-Some-clause-steps
+returns-in-Ok-Some-clause-steps g c lent = few_by_line _ _ _ _ c.arrive_line.ensures.arrives lent
+
+pub returns-in-Ok-None-clause-steps : goal.returns-in-Ok-None-clause-steps
+returns-in-Ok-None-clause-steps g c lent = few_by_line _ _ _ _ c.arrive_line.ensures.arrives lent
+
+pub returns-in-Err-Range-clause-steps : goal.returns-in-Err-Range-clause-steps
+returns-in-Err-Range-clause-steps g c lent = few_by_line _ _ _ _ c.arrive_line.ensures.arrives lent
+
+pub returns-in-Err-Exhausted-clause-steps : goal.returns-in-Err-Exhausted-clause-steps
+returns-in-Err-Exhausted-clause-steps g c lent = few_by_line _ _ _ _ c.arrive_line.ensures.arrives lent
+
+pub returns-in-Err-Failed-clause-steps : goal.returns-in-Err-Failed-clause-steps
+returns-in-Err-Failed-clause-steps g c lent = few_by_line _ _ _ _ c.arrive_line.ensures.arrives lent
+
+pub returns-in-Err-Exhausted-clause-still : goal.returns-in-Err-Exhausted-clause-still
+returns-in-Err-Exhausted-clause-still g c =
+    still_by_line _ _ (message_of c.args.line.now) arrivals.Exhausted (subst (ArrivesByLine c.args.core.now c.arrive_line.new.self (message_of c.args.line.now))
+    (c.in-Err-Exhausted.is ∙ ap Err c.in-Err-Exhausted.field-0-is) c.arrive_line.ensures.arrives)
+
+pub returns-in-Err-Failed-clause-still : goal.returns-in-Err-Failed-clause-still
+returns-in-Err-Failed-clause-still g c =
+    still_by_line _ _ (message_of c.args.line.now) arrivals.Failed (subst (ArrivesByLine c.args.core.now c.arrive_line.new.self (message_of c.args.line.now))
+    (c.in-Err-Failed.is ∙ ap Err c.in-Err-Failed.field-0-is) c.arrive_line.ensures.arrives)

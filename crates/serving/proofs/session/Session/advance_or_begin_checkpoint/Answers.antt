@@ -2,7 +2,7 @@
 use Rattle.std.proofs.Common.{inl, subst, sym}
 use Rattle.std.specs.Prelude.{IfOk, IsTrue}
 use Rattle.serving.specs.Checkpoints.{IsDue}
-use Rattle.serving.specs.SessionSteps.{CallsForCheckpoint, CheckpointStep, KeepsCoreState}
+use Rattle.serving.specs.SessionSteps.{CallsForCheckpoint, CheckpointStep, StandsStill}
 use Rattle.serving.specs.Session.{SessionView}
 use Rattle.serving.proofs.CheckpointSteps.{begins, stands_still}
 use Rattle.serving.proofs.session.Session.advance_or_begin_checkpoint.Given.{Over}
@@ -25,7 +25,7 @@ pub returns-then-is_asked_for-clause-stays : goal.returns-then-is_asked_for-clau
 returns-then-is_asked_for-clause-stays g c =
     let same = c.in_ok-advance_checkpoint.ensures.none c.if-branch.false in
     stands_still _ _ _ _ c.begin_checkpoint.result c.begin_checkpoint.ensures.begun c.begin_checkpoint.ensures.stays
-    (λ keeps. subst (λ (p : SessionView). KeepsCoreState p c.begin_checkpoint.new.self) same keeps)
+    (λ still. subst (λ (p : SessionView). StandsStill p c.begin_checkpoint.new.self) same still)
 
 pub returns-then-is_asked_for-clause-moved : goal.returns-then-is_asked_for-clause-moved
 returns-then-is_asked_for-clause-moved g c =
@@ -33,4 +33,4 @@ returns-then-is_asked_for-clause-moved g c =
     let why = reason g (goal.at.returns-then-is_asked_for-clause-moved g c).Joined-then-is_asked_for in
     let none = (rw c.if-branch.false at c.in_ok-advance_checkpoint.ensures.step).0 in
     subst (λ (p : SessionView). IfOk c.begin_checkpoint.result (λ it. IsTrue it → CheckpointStep p c.begin_checkpoint.new.self)) same
-    (begins _ c.advance_checkpoint.new.self c.begin_checkpoint.new.self why none c.begin_checkpoint.result c.begin_checkpoint.ensures.begun c.begin_checkpoint.ensures.restarted)
+    (begins _ c.advance_checkpoint.new.self c.begin_checkpoint.new.self why none c.begin_checkpoint.result c.begin_checkpoint.ensures.begun c.begin_checkpoint.ensures.fresh)

@@ -48,7 +48,10 @@ returns-in-Err-clause-stays g c =
     let pieces_left = ap (λ (p : SessionView). p.core.pieces_left) c.self.view_is ∙ c.requires.none in
     stays (core_state_of old) pieces_left (core_state_of c.cut.new.self) (Unit {0}) c.in-Err.why c.wait_or_halt.result c.in-Err.ensures.state_after c.wait_or_halt.ensures
     (λ same. (
-      c.cut.ensures.geometry ∙ ap (λ (p : SessionView). p.core.geometry) c.self.view_is,
-      same ∙ ap (λ (p : SessionView). core_state_of p.core) c.self.view_is,
-      ap (λ (p : SessionView). p.dispatch_seat) c.self.view_is,
+      (
+        c.cut.ensures.geometry ∙ ap (λ (p : SessionView). p.core.geometry) c.self.view_is,
+        same ∙ ap (λ (p : SessionView). core_state_of p.core) c.self.view_is,
+        ap (λ (p : SessionView). p.dispatch_seat) c.self.view_is,
+      ),
+      ap (λ (p : SessionView). p.trigger) c.self.view_is,
     ))

@@ -4,13 +4,15 @@ use Rattle.std.specs.Prelude.{IfSome, IsTrue, is_none}
 use Rattle.std.specs.Io.KnownBytes.{IsAtEnd}
 use Rattle.std.proofs.lemmas.List.{length-append}
 use Rattle.std.proofs.lemmas.Bool.{and_parts}
+use Rattle.std.proofs.lemmas.Option.{none-some}
 use Rattle.protocol.specs.FirstLine.{GivesLine}
 use Rattle.message.specs.Reader.{has_ended, is_drained, source, unread}
+use Rattle.scheduler.specs.CoreView.{core_state_of}
 use Rattle.serving.specs.Lines.{NoMessage}
 use Rattle.serving.specs.TakesLine.{read_end_of}
 use Rattle.serving.specs.Runs.{lent_hand}
 use Rattle.serving.specs.View.{IsSession}
-use Rattle.serving.specs.Session.{IsReadEnd, SessionView}
+use Rattle.serving.specs.Session.{IsReadEnd, SessionView, steps_ahead}
 use Rattle.serving.specs.declared.session.ReadEnd.{ReadEnd}
 use Rattle.serving.specs.declared.session.ReadEnd.TheVariants as ends_of_reading
 use Rattle.serving.proofs.IsReadEnd.{gives, stops_at_refusal}
@@ -201,3 +203,21 @@ returns-in-Err-clause-output_failed g c = ap (λ (p : SessionView). p.output_fai
 
 pub returns-in-Err-clause-slots : goal.returns-in-Err-clause-slots
 returns-in-Err-clause-slots g c = ap (λ (p : SessionView). p.reorder_buffer.slots) c.self.view_is
+
+pub returns-in-Ok-clause-steps : goal.returns-in-Ok-clause-steps
+returns-in-Ok-clause-steps g c _ = omega (arith, c.take.ensures.steps c.self.inside.dispatch_seat.lent, ap steps_ahead c.self.view_is)
+
+pub returns-in-Err-take-clause-none : goal.returns-in-Err-take-clause-none
+returns-in-Err-take-clause-none g c _ = record {
+  still = (
+    (
+      c.take.ensures.geometry ∙ ap (λ (p : SessionView). p.core.geometry) c.self.view_is,
+      c.in-Err-take.ensures.still ∙ ap (λ (p : SessionView). core_state_of p.core) c.self.view_is,
+      ap (λ (p : SessionView). p.dispatch_seat) c.self.view_is,
+    ),
+    ap (λ (p : SessionView). p.trigger) c.self.view_is,
+  );
+  lines = c.in-Err-take.ensures.same ∙ ap (λ (p : SessionView). p.reorder_buffer) c.self.view_is;
+  outstanding = ap (λ (p : SessionView). p.outstanding) c.self.view_is;
+  same = λ reads. absurd (none-some _ (sym reads));
+}
