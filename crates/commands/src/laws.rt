@@ -31,7 +31,7 @@ pub fn servers_are_durably_linearizable()
 
 /// Two services that ended without a fault, on devices that held one state, and with the same input: they have written the same bytes, and
 /// leave one state, whatever a crash then does. Their numbers of workers and of slots may differ, and their workers may have been scheduled
-/// in any way. So who sends one input to two of them has a replica. It does nothing; its contract is the law.
+/// in any way. So who sends one input to two of them has a replica, as long as neither crashes. It does nothing; its contract is the law.
 pub fn services_without_a_fault_agree()
     ensures { (g : Geometry) (recover : List ℕ → Option State) (start : State) (device other_device : Medium) (one other : CrashedRun)
         → HoldsState recover device start → HoldsState recover other_device start
