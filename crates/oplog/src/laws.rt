@@ -56,9 +56,9 @@ pub fn the_front_is_what_is_read()
     ensures { (l : Layout) (h i : ℕ) (c : List ℕ) → i < length (front l h c) → get_or (front l h c) i [] ≡ record_at l h i c }
 {}
 
-/// Recovery replays at most as many records as two halves hold, whatever bytes a device has; where the named half isn't chained, as many
-/// as one half.
-pub fn recovery_replays_at_most_two_halves()
+/// At most as many records are in force as two halves hold, whatever bytes a device has; where the named half isn't chained, as many as
+/// one half.
+pub fn at_most_two_halves_are_in_force()
     ensures two { (g : Geometry) (c : List ℕ) → length (records_in g c) ≤ 2 * g.half }
     ensures one { (g : Geometry) (c : List ℕ) → (chain (layout_of g) (named_area (layout_of g) c) c == 1) ≡ false
         → length (records_in g c) ≤ g.half }

@@ -6,7 +6,7 @@ use Rattle.oplog.specs.HalfContent.{chain, count_open, front, gates}
 use Rattle.oplog.specs.Recovery.{in_force, named_area}
 use Rattle.oplog.proofs.Gates.{open_at_most}
 use Rattle.oplog.proofs.RecordRows.{length-rows}
-use Rattle.oplog.proofs.laws.recovery_replays_at_most_two_halves.Goals as goal
+use Rattle.oplog.proofs.laws.at_most_two_halves_are_in_force.Goals as goal
 
 front_in_half : (l : Layout) (h : ℕ) (c : List ℕ) → length (front l h c) ≤ l.capacity
 front_in_half l h c =
