@@ -14,7 +14,8 @@ use Rattle.meaning.proofs.OutputLemmas.{joined-append, output_lines-append}
 use Rattle.meaning.specs.Output.{WritesOutput, answer_line, joined, output_lines, serial_output, state_after_line, state_after_lines}
 use Rattle.meaning.specs.Step.{reply_to}
 use Rattle.meaning.specs.State.{State}
-use Rattle.serving.specs.Restart.{IsClosedPart, RecoversTo}
+use Rattle.meaning.specs.ClosedPart.{IsClosedPart}
+use Rattle.serving.specs.Restart.{RecoversTo}
 use Rattle.commands.specs.Promise.{HasRunFrom, HoldsState, IsWritten, OpensUnlessFailed}
 use Rattle.commands.specs.DurableLinearizability.{AreDurablyLinearizable, AreOperationsOf, Operation, answers_in, lines_in}
 use Rattle.commands.specs.Restarts.{FollowCrashes}

@@ -23,7 +23,7 @@ use Rattle.commands.specs.DurableLinearizability.{AreDurablyLinearizable, IsHist
 use Rattle.commands.specs.CrashedRun.{CrashedRun, Killed, Returned}
 use Rattle.commands.specs.Services.{AsksServe, within_limits}
 use Rattle.commands.specs.declared.faults.Fault.TheVariants.{Device, Write}
-use Rattle.serving.specs.Restart.{IsClosedPart}
+use Rattle.meaning.specs.ClosedPart.{IsClosedPart}
 use Rattle.arguments.proofs.Examples as given
 
 small_is_formatted : formatted_line small ≡ codes "formatted 8840" ++ 10 ∷ []

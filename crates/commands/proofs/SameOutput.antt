@@ -6,7 +6,7 @@ use Rattle.disk.specs.Device.{Medium}
 use Rattle.protocol.specs.Lines.{lines}
 use Rattle.meaning.specs.Output.{serial_output, state_after_lines}
 use Rattle.meaning.specs.State.{State}
-use Rattle.serving.specs.Restart.{IsClosedPart}
+use Rattle.meaning.specs.ClosedPart.{IsClosedPart}
 use Rattle.commands.specs.Promise.{HoldsState, IsWritten}
 use Rattle.commands.specs.Restarts.{HaveAgreed}
 use Rattle.commands.specs.CrashedRun.{CrashedRun, IsRunOn, Returned}

@@ -4,7 +4,7 @@ use Rattle.affinity.specs.declared.geometry.Geometry.{Geometry}
 use Rattle.protocol.specs.Lines.{lines}
 use Rattle.meaning.specs.Output.{joined, output_lines}
 use Rattle.meaning.specs.State.{State}
-use Rattle.serving.specs.Restart.{IsClosedPart}
+use Rattle.meaning.specs.ClosedPart.{IsClosedPart}
 use Rattle.commands.specs.Promise.{IsWritten, OpensUnlessFailed}
 use Rattle.commands.specs.CrashedRun.{promised_end, CrashedRun}
 

@@ -1,5 +1,5 @@
 -- Worked examples, by computing: what a small server answers to a list of messages.
-use Rattle.std.proofs.Common.{◌≡◌, ℕ, true, false, List, [], ◌∷◌, refl}
+use Rattle.std.proofs.Common.{◌≡◌, ℕ, true, false, List, [], ◌∷◌, ◌++◌, refl}
 use Rattle.std.specs.Prelude.{replicate}
 use Rattle.affinity.specs.Geometry.{default_geometry}
 use Rattle.affinity.proofs.GeometryLemmas.{small}
@@ -144,3 +144,24 @@ questions_to_a_sealed_volume : answers_after sealed_volume (Read 0 0 0 0 ∷ Rea
     ∷ Seal 0 0 ∷ AskSummary ∷ []) ≡ Hole ∷ Refused File ∷ Files 1 ∷ Usage 1 0 true ∷ Label (replicate 32 0) ∷ Refused Exists ∷ Done ∷ Summary 1 1 0
     ∷ []
 questions_to_a_sealed_volume = refl
+
+-- ---- sending again
+
+-- These changes are accepted one after the other, and leave their stripe full. It has no room for all three of their blocks at once.
+abbrev three_blocks : Block → List Msg
+three_blocks x = Punch 0 0 0 0 ∷ Write 0 0 0 2 x ∷ Write 0 0 0 0 x ∷ Punch 0 0 0 2 ∷ Write 0 0 1 1 x ∷ []
+
+-- the messages before them, and they
+abbrev and_three_blocks : Block → List Msg
+and_three_blocks x = MakeVol 0 0 ∷ Create 0 0 0 ∷ Create 0 0 1 ∷ Write 0 0 0 0 x ∷ three_blocks x
+
+each_is_accepted : (x : Block) → answers (and_three_blocks x) ≡ replicate 9 Done
+each_is_accepted x = refl
+
+their_first_block_is_there : (x : Block) → answers_after (and_three_blocks x) (Read 0 0 0 0 ∷ []) ≡ Found x ∷ []
+their_first_block_is_there x = refl
+
+-- Sent again, the second `write` is refused, since the last one is there already, and the block that the `punch` has removed is lost.
+without_room_a_block_is_lost : (x : Block) → answers_after (and_three_blocks x) (three_blocks x ++ Read 0 0 0 0 ∷ [])
+    ≡ Done ∷ Done ∷ Refused Space ∷ Done ∷ Done ∷ Hole ∷ []
+without_room_a_block_is_lost x = refl

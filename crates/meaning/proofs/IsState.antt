@@ -52,7 +52,7 @@ passed p (t ∷ ts) h =
     ] refl h
 
 -- the first two numbers are in range, and so are the others
-two_below : (g : Geometry) (a v : ℕ) (rest : List ℕ) → are_below (a ∷ v ∷ rest) (limits g) ≡ true → (a < g.aggregates) × (v < g.volumes) × (are_below rest (g.files ∷ g.blocks ∷ []) ≡ true)
+pub two_below : (g : Geometry) (a v : ℕ) (rest : List ℕ) → are_below (a ∷ v ∷ rest) (limits g) ≡ true → (a < g.aggregates) × (v < g.volumes) × (are_below rest (g.files ∷ g.blocks ∷ []) ≡ true)
 two_below g a v rest e =
     let p = and_parts (nat_lt a g.aggregates) _ e in
     let q = and_parts (nat_lt v g.volumes) (are_below rest (g.files ∷ g.blocks ∷ [])) p.1 in
@@ -61,11 +61,11 @@ two_below g a v rest e =
 -- ---- one key of a set or map that an effect changed
 
 -- what is there after clearing was not picked, and was there
-not_cleared : {X : Type 0} (b : Bool) (o : Option X) → is_some (if b then None else o) ≡ true → (not b ≡ true) × (is_some o ≡ true)
+pub not_cleared : {X : Type 0} (b : Bool) (o : Option X) → is_some (if b then None else o) ≡ true → (not b ≡ true) × (is_some o ≡ true)
 not_cleared true o e = absurd (true≢false (sym e))
 not_cleared false o e = (refl, e)
 
-was_set : {X : Type 0} (b : Bool) (value : X) (o : Option X) → is_some (if b then Some value else o) ≡ true → (b ≡ true) ⊎ (is_some o ≡ true)
+pub was_set : {X : Type 0} (b : Bool) (value : X) (o : Option X) → is_some (if b then Some value else o) ≡ true → (b ≡ true) ⊎ (is_some o ≡ true)
 was_set true value o e = inl refl
 was_set false value o e = inr e
 
@@ -97,7 +97,7 @@ no_label_is_bytes = (refl, zeros_are_bytes LABEL_SIZE)
 -- ---- the quota
 
 -- fewer blocks, no greater counts
-fewer : (g : Geometry) (x y : State) → ((k : BlockKey) → is_some (y.blocks k) ≡ true → is_some (x.blocks k) ≡ true) → (a v s : ℕ) → blocks_in_stripe g y a v s ≤ blocks_in_stripe g x a v s
+pub fewer : (g : Geometry) (x y : State) → ((k : BlockKey) → is_some (y.blocks k) ≡ true → is_some (x.blocks k) ≡ true) → (a v s : ℕ) → blocks_in_stripe g y a v s ≤ blocks_in_stripe g x a v s
 fewer g x y h a v s = sum_below-le g.files _ _ (λ f lt. sum_below-le g.blocks _ _ (λ b lt. one_if_from _ _ (also_before f b)))
   where
     also_before : (f b : ℕ) → ((stripe_of g f b == s) && is_some (y.blocks (a, v, f, b))) ≡ true → ((stripe_of g f b == s) && is_some (x.blocks (a, v, f, b))) ≡ true

@@ -19,4 +19,6 @@ pub mod FileNumber
 pub mod FileBits
 -- For this crate.
 mod Effects
+mod HealingStep
+mod SendingAgain
 mod Examples

@@ -7,6 +7,8 @@ pub mod Facts
 pub mod TicketOrder
 pub mod Commute
 pub mod Output
+pub mod ClosedPart
+pub mod SendingAgain
 pub mod Removals
 pub mod Progress
 pub mod KeyOrders

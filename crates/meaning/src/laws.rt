@@ -1,13 +1,14 @@
 //! What holds of every server, whatever state it is in: laws of the definitions alone. No function
 //! here does anything; its contract is the law.
 
-ghost use Rattle.std.specs.Prelude.{◌≡◌, ℕ, true, false, List, Some, IsPermutation};
+ghost use Rattle.std.specs.Prelude.{◌≡◌, ℕ, ◌≤◌, true, false, List, ◌++◌, Some, IsPermutation};
 ghost use Rattle.std.specs.List.{AllByRecursion};
 ghost use Rattle.affinity.specs.declared.geometry.Geometry.{Geometry};
 ghost use Rattle.affinity.specs.Path.{are_related};
 ghost use Rattle.protocol.specs.declared.messages.Msg.{Msg};
 ghost use Rattle.protocol.specs.declared.replies.Refusal.{Refusal};
 ghost use Rattle.protocol.specs.declared.replies.Reply.TheVariants.{Refused};
+ghost use Rattle.protocol.specs.Grammar.{message_of};
 ghost use Rattle.protocol.specs.Messages.{path_of, IsMessage};
 ghost use Rattle.meaning.specs.State.{State, IsState, empty};
 ghost use Rattle.meaning.specs.Refusals.{refusal, is_refused};
@@ -15,6 +16,8 @@ ghost use Rattle.meaning.specs.Step.{reply_to, next_state, state_after_all, is_r
 ghost use Rattle.meaning.specs.Subtrees.{AgreeOn, subtree, standing};
 ghost use Rattle.meaning.specs.TicketOrder.{by_ticket, KeepsOrder, SameByTicket, AreInOrder};
 ghost use Rattle.meaning.specs.Commute.{outside, RunAlike, Commute};
+ghost use Rattle.meaning.specs.Output.{state_after_lines};
+ghost use Rattle.meaning.specs.SendingAgain.{AreAccepted, HaveSpace, WritesThere, stripe_size, Try, AreTries, lines_done};
 
 /// The empty state is a possible one (`IsState`), and each message leads from a possible state to a possible one: all
 /// numbers stay in range, blocks and labels keep their lengths, and no stripe gets more blocks than its quota.
@@ -58,4 +61,15 @@ pub fn order_by_ticket()
 pub fn recorded_messages_are_enough()
     ensures unrecorded { (g : Geometry) (x : State) (m : Msg) → is_recorded m (reply_to g x m) ≡ false → next_state g x m ≡ x }
     ensures recorded { (g : Geometry) (x : State) (ms : List Msg) → state_after_all g x (recorded_of g x ms) ≡ state_after_all g x ms }
+{}
+
+/// Sending again heals: where no change is refused and each stripe has room, a client that sends its unanswered lines again after each
+/// crash ends in the state in which it would have ended without a crash.
+pub fn sending_again_heals()
+    ensures heals { (g : Geometry) (x : State) (ls : List (List ℕ)) (tries : List Try) (left : List (List ℕ)) → IsState g x
+        → AreAccepted g x ls → HaveSpace g x ls → AreTries g tries ls left
+        → state_after_lines g x (lines_done tries ++ left) ≡ state_after_lines g x ls }
+    ensures large_quota { (g : Geometry) (x : State) (ls : List (List ℕ)) → ((s : ℕ) → stripe_size g s ≤ g.quota) → HaveSpace g x ls }
+    ensures nothing_new { (g : Geometry) (x : State) (ls : List (List ℕ)) → IsState g x
+        → AllByRecursion (λ line. WritesThere x (message_of line)) ls → HaveSpace g x ls }
 {}

@@ -14,6 +14,7 @@ use Rattle.protocol.specs.declared.replies.Refusal.TheVariants.{Range}
 use Rattle.protocol.specs.declared.replies.Reply.{Reply}
 use Rattle.protocol.specs.declared.replies.Reply.TheVariants.{Refused}
 use Rattle.meaning.specs.TicketOrder.{by_ticket, messages_of}
+use Rattle.meaning.specs.ClosedPart.{IsClosedPart, are_related_lines}
 use Rattle.meaning.specs.Output.{WritesOutput, answer_line, joined, output_lines, state_after_line, state_after_lines}
 use Rattle.meaning.specs.Step.{state_after_all, next_state, reply_to}
 use Rattle.meaning.specs.State.{State}
@@ -23,7 +24,7 @@ use Rattle.histories.specs.CoreState.{Entry, Replied, are_related_entries, entri
 use Rattle.histories.proofs.Elements.{in_contained, IsIn, in_left}
 use Rattle.serving.specs.Runs.{AreFirst}
 use Rattle.serving.specs.Lines.{admitted, admitted_in, ticketed}
-use Rattle.serving.specs.Restart.{IsClosedPart, RecoversTo, BytesRecover, are_related_lines}
+use Rattle.serving.specs.Restart.{RecoversTo, BytesRecover}
 use Rattle.serving.specs.History.{AreInHistory, RecoversToHistory, IsInHistory}
 use Rattle.serving.proofs.HaveSerialReplies.{HaveSerialReplies, its_reply, out_of_range as refused_for_range, serial_after, with_ticket}
 use Rattle.serving.proofs.SortedLogs.{HasNoGap, IsApart, all_kept, sorted_log}
@@ -217,7 +218,7 @@ said_so (a ∷ log) t m reply is = ⊎_elim
     (λ (same : (t, m, reply) ≡ a). inl (ap (λ (b : Replied). (b.0, b.2)) same))
     (λ later. inr (said_so log t m reply later)) is
 
-none_there : (g : Geometry) (ls : List (List ℕ)) → IsClosedPart g [] ls
+pub none_there : (g : Geometry) (ls : List (List ℕ)) → IsClosedPart g [] ls
 none_there g [] = refl
 none_there g (line ∷ ls) = inr (tt, none_there g ls)
 

@@ -6,9 +6,10 @@ use Rattle.affinity.proofs.GeometryLemmas.{small}
 use Rattle.protocol.specs.Grammar.{kind_named, message_of}
 use Rattle.protocol.specs.Lines.{lines}
 use Rattle.protocol.specs.Words.{number_in_word}
+use Rattle.meaning.specs.ClosedPart.{IsClosedPart, are_related_lines}
 use Rattle.meaning.specs.Output.{joined, output_lines, state_after_lines}
 use Rattle.meaning.specs.State.{State, empty}
-use Rattle.serving.specs.Restart.{IsClosedPart, RecoversTo, are_related_lines}
+use Rattle.serving.specs.Restart.{RecoversTo}
 
 abbrev make : List ℕ
 make = codes "makevol 0 0"
