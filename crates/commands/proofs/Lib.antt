@@ -4,6 +4,7 @@ mod ServedDevice
 mod Acknowledged
 mod Promise
 mod DurableLinearizability
+mod SendsAgain
 mod SameOutput
 mod Services
 mod Exits

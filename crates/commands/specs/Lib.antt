@@ -10,6 +10,7 @@ pub mod InFile
 pub mod Kill
 pub mod CrashedRun
 pub mod Restarts
+pub mod SendsAgain
 pub mod DurableLinearizability
 pub mod Services
 pub mod Exits

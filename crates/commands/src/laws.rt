@@ -1,5 +1,5 @@
 //! The theorem's laws: of a service that is killed, of any number of servers, and of two services.
-ghost use Rattle.std.specs.Prelude.{◌≡◌, ℕ, List, Ok, Option};
+ghost use Rattle.std.specs.Prelude.{◌≡◌, ℕ, List, Ok, Option, Some};
 ghost use Rattle.affinity.specs.declared.geometry.Geometry.{Geometry};
 ghost use Rattle.recovery.specs.Recovery.{recovered_state};
 ghost use Rattle.commands.specs.Kill.{IsKilled};
@@ -8,7 +8,10 @@ ghost use Rattle.commands.specs.DurableLinearizability.{AreDurablyLinearizable};
 ghost use Rattle.commands.specs.Restarts.{FollowCrashes, HaveAgreed};
 ghost use Rattle.commands.specs.CrashedRun.{CrashedRun, IsRunOn, Returned};
 ghost use Rattle.disk.specs.Device.{Medium};
-ghost use Rattle.meaning.specs.State.{State};
+ghost use Rattle.commands.specs.SendsAgain.{SendsAgain, last_device};
+ghost use Rattle.meaning.specs.Output.{state_after_lines};
+ghost use Rattle.meaning.specs.SendingAgain.{AreAccepted, HaveSpace};
+ghost use Rattle.meaning.specs.State.{IsState, State};
 
 use disk::Disk;
 
@@ -27,6 +30,18 @@ pub fn a_killed_service_loses_nothing<D: Disk>()
 pub fn servers_are_durably_linearizable()
     ensures { (g : Geometry) (recover : List ℕ → Option State) (start : State) (device : Medium) (runs : List CrashedRun)
         → HoldsState recover device start → FollowCrashes g recover device runs → AreDurablyLinearizable g start runs }
+{}
+
+/// Sending again heals: a client of servers as above sends to each the lines of which no answer has come out. If without a crash no change
+/// among them would be refused, and there is space for their blocks, the lines that are left at the end lead from what the last crash left
+/// to the state in which a server that never crashed ends. So if none is left, no crash has left a trace. The state `start` has to be a
+/// possible one, as each is to which messages lead (law `meaning::step_keeps_state`). It does nothing; its contract is the law.
+pub fn sending_again_leaves_no_trace()
+    ensures { (g : Geometry) (recover : List ℕ → Option State) (start : State) (device : Medium) (runs : List CrashedRun)
+        → (ls left : List (List ℕ)) → HoldsState recover device start → FollowCrashes g recover device runs
+        → IsState g start → AreAccepted g start ls → HaveSpace g start ls → SendsAgain runs ls left
+        → (now : State) × (recover (last_device device runs).now ≡ Some now)
+        × (state_after_lines g now left ≡ state_after_lines g start ls) }
 {}
 
 /// Two services that ended without a fault, on devices that held one state, and with the same input: they have written the same bytes, and

@@ -11,6 +11,8 @@ pub mod IsRecorded
 mod FirstLine
 pub mod OutputLemmas
 pub mod TakesLines
+-- For runs of servers.
+pub mod SendingAgain
 -- For the serial server: the keys of ordered maps, and the tests by kind.
 pub mod Keys
 pub mod ReadStep
@@ -20,5 +22,4 @@ pub mod FileBits
 -- For this crate.
 mod Effects
 mod HealingStep
-mod SendingAgain
 mod Examples

@@ -1,4 +1,4 @@
--- Statement for engineers: A client that sends its unanswered lines again after each crash.
+-- Statement for clients: A client that sends its unanswered lines again after each crash.
 use Rattle.std.specs.Prelude.{◌≡◌, ℕ, ◌≤◌, true, false, ◌&&◌, ◌==◌, List, [], ◌∷◌, ◌++◌, Option, Some, None, is_some}
 use Rattle.std.specs.List.{flat_map}
 use Rattle.affinity.specs.Geometry.{stripe_of}
