@@ -11,7 +11,7 @@ use crate::faults::Fault;
 use crate::lines::{add_line, write_lines};
 use affinity::Geometry;
 use checkpoint::{device_len, format};
-use disk::{Disk, FileDisk};
+use disk::{Disk, FailStop, FileDisk};
 use std::alloc::{AllocError, Global};
 use std::fs::File;
 use std::io::Write;
@@ -59,7 +59,7 @@ pub fn format_device<T: Files<File = File>, W: Write>(
     ensures { EndsFormatting geometry result (W.contents w.old) (W.contents w.new) }
 {
     let line = formatted_text(alloc, &geometry)?;
-    let disk = FileDisk::create(rt, path, device_len(&geometry))?;
+    let disk = FailStop::new(FileDisk::create(rt, path, device_len(&geometry))?);
     let (_disk, end) = format_on(alloc, disk, geometry, &line, w);
     end
 }

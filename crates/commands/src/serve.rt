@@ -15,7 +15,7 @@ ghost use Rattle.commands.specs.ServedDevice.{EndsOnDevice, CrashesSafely};
 
 use crate::faults::Fault;
 use crate::serve_options::ServeOptions;
-use disk::{Disk, FileDisk};
+use disk::{Disk, FailStop, FileDisk};
 use scheduler::Core;
 use serving::{ServeError, ServeFault, serve};
 use std::alloc::Global;
@@ -110,7 +110,7 @@ pub fn serve_device<T: Files<File = File> + Threads + Wait + Sync, R: Read, W: W
 ) -> Result<(), Fault>
     ensures { EndsInFile service result (exchange (R.remaining r.old) (R.remaining r.new) (W.contents w.old) (W.contents w.new)) }
 {
-    let disk = FileDisk::open(rt, path)?;
+    let disk = FailStop::new(FileDisk::open(rt, path)?);
     let (_disk, end) = serve_on(rt, alloc, disk, service, r, w);
     end
 }

@@ -6,5 +6,6 @@ pub mod Memory
 pub mod CrashImages
 pub mod RealFile
 pub mod GhostDevice
+pub mod FailStop
 pub mod Span
 pub mod Store

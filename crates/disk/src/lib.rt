@@ -2,12 +2,13 @@
 //!
 //! `Disk` is the contract that durable code rests on. `MemDisk` keeps it, and can fail and crash on purpose. `FileBacked` is a device with
 //! a file behind it, proved over the three calls of `BackingFile`. `FileDisk` is a `FileBacked` over a file of the system, of which no
-//! contract can state that it keeps its bytes.
+//! contract can state that it keeps its bytes. `FailStop` makes no call of a device after one that failed.
 #![tactic(auto)]
 
 mod backed;
 mod backing;
 mod device;
+mod fail_stop;
 mod fault;
 mod file;
 mod ghost_device;
@@ -22,6 +23,7 @@ pub mod writes;
 pub use backed::FileBacked;
 pub use backing::BackingFile;
 pub use device::Disk;
+pub use fail_stop::FailStop;
 pub use fault::{DiskFault, FileFault};
 pub use file::FileDisk;
 pub use host::HostFile;
