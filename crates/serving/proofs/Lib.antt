@@ -15,7 +15,7 @@ mod CheckpointSteps
 mod Places
 mod TakesLines
 mod TicketOrder
-mod HaveSerialReplies
+pub mod HaveSerialReplies
 mod MessageCounts
 mod Outstanding
 mod Slots
