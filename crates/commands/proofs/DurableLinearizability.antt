@@ -17,7 +17,8 @@ use Rattle.meaning.specs.State.{State}
 use Rattle.meaning.specs.ClosedPart.{IsClosedPart}
 use Rattle.serving.specs.Restart.{RecoversTo}
 use Rattle.commands.specs.Promise.{HasRunFrom, HoldsState, IsWritten, OpensUnlessFailed}
-use Rattle.commands.specs.DurableLinearizability.{AreDurablyLinearizable, AreOperationsOf, Operation, answers_in, lines_in}
+use Rattle.commands.specs.AnyRuns.{Operation, answers_in, lines_in}
+use Rattle.commands.specs.DurableLinearizability.{AreDurablyLinearizable, AreOperationsOf}
 use Rattle.commands.specs.Restarts.{FollowCrashes}
 use Rattle.commands.specs.CrashedRun.{CrashedRun, IsRunOn, Killed, Returned, RunEnd, promised_end}
 use Rattle.commands.specs.declared.faults.Fault.{Fault}
@@ -25,19 +26,19 @@ use Rattle.commands.specs.declared.faults.Fault.{Fault}
 -- ---- what a serial server does
 
 -- the operations of a serial server on some lines, from a state on
-abbrev served : Geometry → State → List (List ℕ) → List Operation
+abbrev pub served : Geometry → State → List (List ℕ) → List Operation
 served g x [] = []
 served g x (l ∷ ls) = record { line = l; answer = answer_line g x (message_of l) } ∷ served g (state_after_line g x (message_of l)) ls
 
-served-append : (g : Geometry) (x : State) (ls ms : List (List ℕ)) → served g x ls ++ served g (state_after_lines g x ls) ms ≡ served g x (ls ++ ms)
+pub served-append : (g : Geometry) (x : State) (ls ms : List (List ℕ)) → served g x ls ++ served g (state_after_lines g x ls) ms ≡ served g x (ls ++ ms)
 served-append g x [] ms = refl
 served-append g x (l ∷ ls) ms = ap (λ (os : List Operation). record { line = l; answer = answer_line g x (message_of l) } ∷ os) (served-append g (state_after_line g x (message_of l)) ls ms)
 
-lines_in-served : (g : Geometry) (x : State) (ls : List (List ℕ)) → lines_in (served g x ls) ≡ ls
+pub lines_in-served : (g : Geometry) (x : State) (ls : List (List ℕ)) → lines_in (served g x ls) ≡ ls
 lines_in-served g x [] = refl
 lines_in-served g x (l ∷ ls) = ap (λ (ms : List (List ℕ)). l ∷ ms) (lines_in-served g (state_after_line g x (message_of l)) ls)
 
-answers_in-served : (g : Geometry) (x : State) (ls : List (List ℕ)) → answers_in (served g x ls) ≡ output_lines g x ls
+pub answers_in-served : (g : Geometry) (x : State) (ls : List (List ℕ)) → answers_in (served g x ls) ≡ output_lines g x ls
 answers_in-served g x [] = refl
 answers_in-served g x (l ∷ ls) = ap (λ (ws : List (List ℕ)). answer_line g x (message_of l) ∷ ws) (answers_in-served g (state_after_line g x (message_of l)) ls)
 

@@ -19,7 +19,8 @@ use Rattle.meaning.specs.State.{State, empty}
 use Rattle.device_map.specs.Layout.{image_size}
 use Rattle.commands.specs.Lines.{formatted_line, shown_lines}
 use Rattle.commands.specs.Promise.{HasRunFrom}
-use Rattle.commands.specs.DurableLinearizability.{AreDurablyLinearizable, IsHistoryOf, Operation, answers_in, lines_in}
+use Rattle.commands.specs.AnyRuns.{Operation, answers_in, lines_in}
+use Rattle.commands.specs.DurableLinearizability.{AreDurablyLinearizable, IsHistoryOf}
 use Rattle.commands.specs.CrashedRun.{CrashedRun, Killed, Returned}
 use Rattle.commands.specs.Services.{AsksServe, within_limits}
 use Rattle.commands.specs.declared.faults.Fault.TheVariants.{Device, Write}

@@ -5,6 +5,10 @@ mod Acknowledged
 mod Promise
 mod DurableLinearizability
 mod SendsAgain
+mod AnyRuns
+mod KeepsPromise
+mod SerialServer
+mod AgreeingRuns
 mod SameOutput
 mod Services
 mod Exits

@@ -1,23 +1,13 @@
--- Statement for clients: What servers on one device did, each after a crash of the one before, is what one serial server does.
-use Rattle.std.specs.Prelude.{[], ◌≡◌, ℕ, List, ◌∷◌, ◌++◌, map, take, Some, OnOk}
+-- Statement for engineers: What servers on one device did, each after a crash of the one before, is what one serial server does.
+use Rattle.std.specs.Prelude.{[], ◌≡◌, ℕ, List, ◌∷◌, ◌++◌, take, Some, OnOk}
 use Rattle.affinity.specs.declared.geometry.Geometry.{Geometry}
 use Rattle.protocol.specs.Lines.{lines}
 use Rattle.meaning.specs.Output.{joined, output_lines}
 use Rattle.meaning.specs.State.{State}
 use Rattle.meaning.specs.ClosedPart.{IsClosedPart}
+use Rattle.commands.specs.AnyRuns.{Operation, answers_in, lines_in}
 use Rattle.commands.specs.Promise.{IsWritten, OpensUnlessFailed}
 use Rattle.commands.specs.CrashedRun.{promised_end, CrashedRun}
-
--- a line, and the answer to it, with its newline
-pub record Operation : Type 0 where
-  pub line : List ℕ
-  pub answer : List ℕ
-
-abbrev pub lines_in : List Operation → List (List ℕ)
-lines_in operations = map (λ o. o.line) operations
-
-abbrev pub answers_in : List Operation → List (List ℕ)
-answers_in operations = map (λ o. o.answer) operations
 
 -- The operations of one run. It acknowledged the first lines of its input, if it returned without a fault all of them: their answers are
 -- what it wrote or, where it was killed or a write failed, was to write. Of the `unanswered` lines after them the crash left a part,

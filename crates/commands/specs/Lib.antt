@@ -9,6 +9,8 @@ pub mod UntilCrash
 pub mod InFile
 pub mod Kill
 pub mod CrashedRun
+pub mod AnyRuns
+pub mod SerialServer
 pub mod Restarts
 pub mod SendsAgain
 pub mod DurableLinearizability

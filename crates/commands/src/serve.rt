@@ -1,11 +1,15 @@
 //! `waffd serve`: the lines of the input, answered on the device in a file by workers that run messages at once.
 ghost use Rattle.std.specs.Prelude.{◌≡◌, ℕ, List};
+ghost use Rattle.std.specs.Result.{is_ok};
 ghost use Rattle.affinity.specs.declared.geometry.Geometry.{Geometry};
 ghost use Rattle.checkpoint.specs.Opening.{OpeningCrashImages};
 ghost use Rattle.recovery.specs.Recovery.{recovered_state};
 ghost use Rattle.disk.specs.CrashImages.{IsCrashImage};
 ghost use Rattle.serving.specs.Exchange.{exchange};
 ghost use Rattle.serving.specs.Serve.{ServePromise};
+ghost use Rattle.meaning.specs.ClosedPart.{are_in_conflict};
+ghost use Rattle.commands.specs.AnyRuns.{KeepsPromise};
+ghost use Rattle.commands.specs.SerialServer.{server_on};
 ghost use Rattle.commands.specs.Faults.{command_result};
 ghost use Rattle.commands.specs.Acknowledged.{HoldsAcknowledged};
 ghost use Rattle.commands.specs.Promise.{HoldsOfAll, HoldsRecovered, LeavesRun};
@@ -85,6 +89,10 @@ pub fn serve_on<T: Threads + Wait + Sync, R: Read, W: Write, D: Disk + Drop>(
     ensures recovers { HoldsOfAll result.1 service.slots (W.contents w.old) (W.contents w.new)
         (λ unanswered all. D.keeps → (c : List ℕ) → IsCrashImage (D.medium result.0) c
         → HoldsRecovered unanswered (D.medium disk) (R.remaining r.old) (W.contents w.old) all c) }
+    // What a client relies on, for each end and for whatever a crash leaves then.
+    ensures promise { D.keeps → (g : Geometry) (c : List ℕ) → IsCrashImage (D.medium result.0) c
+        → KeepsPromise (server_on g) (are_in_conflict g) service.slots (D.medium disk) (R.remaining r.old) (is_ok result.1)
+        (W.contents w.old) (W.contents w.new) c }
     ensures goes_on { D.keeps → (g : Geometry) → LeavesRun g (recovered_state g) service.slots (D.medium disk) (D.medium result.0) result.1
         (R.remaining r.old) (W.contents w.old) (W.contents w.new) }
 {

@@ -3,6 +3,7 @@ use Rattle.std.proofs.Common.{refl}
 use Rattle.serving.specs.Exchange.{exchange}
 use Rattle.commands.specs.Faults.{command_result}
 use Rattle.commands.proofs.Acknowledged.{keeps_acknowledged}
+use Rattle.commands.proofs.KeepsPromise.{run_keeps_promise}
 use Rattle.commands.proofs.Promise.{leaves_recovered, leaves_run}
 use Rattle.commands.proofs.ServedDevice.{ends_on_device, crashes_safely, has_served_by}
 use Rattle.commands.proofs.serve.serve_on.Goals as goal
@@ -19,6 +20,11 @@ returns-in-Err-clause-goes_on g c =
     rw c.from-in-Err.ensures
     (leaves_run c.args.service (g.D.Disk.medium c.args.disk) (g.D.Disk.medium c.in-Err.error.disk) _ (exchange input input before before)
     (g.met.D.Disk.bytes c.args.disk) ((λ k. (refused.refused k, refused.unwritten k)), refl, refl, refused.device) refused.any_moment refl)
+
+pub returns-in-Err-clause-promise : goal.returns-in-Err-clause-promise
+returns-in-Err-clause-promise g c keep geometry crashed leaves = run_keeps_promise geometry c.args.service.slots (g.D.Disk.medium c.args.disk)
+    (g.D.Disk.medium c.in-Err.error.disk) _ (g.R.Read.remaining c.args.r.now) (g.W.Write.contents c.args.w.now) (g.W.Write.contents c.args.w.now)
+    crashed (returns-in-Err-clause-goes_on g c keep geometry) leaves
 
 pub run_opened-core-requires-clause-opened : goal.run_opened-core-requires-clause-opened
 run_opened-core-requires-clause-opened g c = λ lifetimes bounds. rw c.of-found.ensures (record {
@@ -40,11 +46,14 @@ returns g c =
     (record { header = c.in-Ok.ensures.header; recovered_before = c.in-Ok.ensures.recovered_before })
     c.in-Ok.ensures.any_moment c.in-Ok.ensures.no_fault c.run_opened-core.ensures c.know_recovery.ensures.now in
     let ends = ends_on_device end by c.know_recovery.ensures.no_doubt (rw c.into_disk.ensures at (g.met.D.Disk.bytes c.into_disk.result)) in
+    let goes_on = leaves_run service old now.medium (command_result end) streams (g.met.D.Disk.bytes c.args.disk) ends (crashes_safely end by)
+    (leaves_recovered end by) in
     rw (c.into_disk.ensures, c.command_result.ensures) (record {
       ends = ends;
       crash_safe = crashes_safely end by;
       kept = keeps_acknowledged end by;
       recovers = leaves_recovered end by;
-      goes_on = leaves_run service old now.medium (command_result end) streams (g.met.D.Disk.bytes c.args.disk) ends (crashes_safely end by)
-          (leaves_recovered end by);
+      promise = λ keep geometry crashed leaves. run_keeps_promise geometry service.slots old now.medium (command_result end) streams.input
+          streams.before streams.written crashed (goes_on keep geometry) leaves;
+      goes_on = goes_on;
     })
