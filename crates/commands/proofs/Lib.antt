@@ -9,6 +9,7 @@ mod AnyRuns
 mod KeepsPromise
 mod SerialServer
 mod AgreeingRuns
+mod AsBefore
 mod SameOutput
 mod Services
 mod Exits
