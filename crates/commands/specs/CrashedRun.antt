@@ -1,4 +1,4 @@
--- Statement for clients: A server that returned or was killed, and what a crash then left of its device.
+-- Statement for engineers: A server that returned or was killed, and what a crash then left of its device.
 use Rattle.std.specs.Prelude.{ℕ, List, Option, Some, Result, Err}
 use Rattle.affinity.specs.declared.geometry.Geometry.{Geometry}
 use Rattle.disk.specs.CrashImages.{IsCrashImage}

@@ -1,4 +1,4 @@
--- Statement for clients: Any number of servers on one device, which returned or were killed, each on what a crash of the one before left.
+-- Statement for engineers: Any number of servers on one device, which returned or were killed, each on what a crash of the one before left.
 use Rattle.std.specs.Prelude.{◌≡◌, ℕ, List, [], ◌∷◌, ◌++◌, Option, Some}
 use Rattle.affinity.specs.declared.geometry.Geometry.{Geometry}
 use Rattle.disk.specs.Device.{IsSynced, Medium}

@@ -12,7 +12,7 @@ ghost use Rattle.commands.specs.Restarts.{FollowCrashes, HaveAgreed};
 ghost use Rattle.commands.specs.CrashedRun.{CrashedRun, IsRunOn, Returned};
 ghost use Rattle.disk.specs.Device.{Medium};
 ghost use Rattle.commands.specs.SendsAgain.{SendsAgain, last_device};
-ghost use Rattle.meaning.specs.Output.{output_lines, state_after_lines};
+ghost use Rattle.meaning.specs.Output.{output_lines};
 ghost use Rattle.meaning.specs.SendingAgain.{AreAccepted, HaveSpace};
 ghost use Rattle.meaning.specs.State.{IsState, State};
 
@@ -69,16 +69,15 @@ pub fn servers_are_durably_linearizable()
         → HoldsState recover device start → FollowCrashes g recover device runs → AreDurablyLinearizable g start runs }
 {}
 
-/// Sending again heals: a client of servers as above sends to each the lines of which no answer has come out. If without a crash no change
-/// among them would be refused, and there is space for their blocks, the lines that are left at the end lead from what the last crash left
-/// to the state in which a server that never crashed ends. So if none is left, no crash has left a trace. The state `start` has to be a
-/// possible one, as each is to which messages lead (law `meaning::step_keeps_state`). It does nothing; its contract is the law.
+/// Sending again heals: a client of such runs sends to each the lines of which no answer has come out. If without a crash no change among
+/// them would be refused, and there is space for their blocks, the server that is there at the end is, once it takes the lines that are
+/// left, one that never crashed and took all of them. So if none is left, no crash has left a trace. The state `start` has to be a possible
+/// one, as each is to which messages lead (law `meaning::step_keeps_state`). It does nothing; its contract is the law.
 pub fn sending_again_leaves_no_trace()
-    ensures { (g : Geometry) (recover : List ℕ → Option State) (start : State) (device : Medium) (runs : List CrashedRun)
-        → (ls left : List (List ℕ)) → HoldsState recover device start → FollowCrashes g recover device runs
+    ensures { (g : Geometry) (recover : List ℕ → Option Server) (start : State) (device : List ℕ) (runs : List Run)
+        → (ls left : List (List ℕ)) → recover device ≡ Some (server_in g start) → EachServes recover (are_in_conflict g) device runs
         → IsState g start → AreAccepted g start ls → HaveSpace g start ls → SendsAgain runs ls left
-        → (now : State) × (recover (last_device device runs).now ≡ Some now)
-        × (state_after_lines g now left ≡ state_after_lines g start ls) }
+        → (server : Server) × (recover (last_device device runs) ≡ Some server) × (after left server ≡ after ls (server_in g start)) }
 {}
 
 /// Two services that ended without a fault, on devices that held one state, and with the same input: they have written the same bytes, and
