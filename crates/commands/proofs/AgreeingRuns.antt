@@ -42,12 +42,12 @@ module _ (recover : List ℕ → Option Server) (conflict : List ℕ → List �
         s.4 ∙ ap (λ (ls : List (List ℕ)). Some (after ls server)) (ap lines_in only ∙ input_is),
       )
 
-pub runs_agree : (recover : List ℕ → Option Server) (conflict : List ℕ → List ℕ → Bool) (server : Server) (one other : Run)
-    → Serves recover conflict server one → Serves recover conflict server other → one.finished ≡ true → other.finished ≡ true → other.input ≡ one.input
-    → (other.out ≡ one.out) × (recover other.left ≡ recover one.left)
-runs_agree recover conflict server one other served other_served ok other_ok same =
-    let mine = served_whole recover conflict server one served ok in
-    let its = served_whole recover conflict server other other_served other_ok in (
-      its.0 ∙ ap (λ (input : List ℕ). joined (answers_of server (lines input))) same ∙ sym mine.0,
-      its.1 ∙ ap (λ (input : List ℕ). Some (after (lines input) server)) same ∙ sym mine.1,
-    )
+module _ (recover : List ℕ → Option Server) (conflict : List ℕ → List ℕ → Bool) (server : Server) (one other : Run) where
+  pub runs_agree : Serves recover conflict server one → Serves recover conflict server other → one.finished ≡ true → other.finished ≡ true
+      → other.input ≡ one.input → (other.out ≡ one.out) × (recover other.left ≡ recover one.left)
+  runs_agree served other_served ok other_ok same =
+      let mine = served_whole recover conflict server one served ok in
+      let its = served_whole recover conflict server other other_served other_ok in (
+        its.0 ∙ ap (λ (input : List ℕ). joined (answers_of server (lines input))) same ∙ sym mine.0,
+        its.1 ∙ ap (λ (input : List ℕ). Some (after (lines input) server)) same ∙ sym mine.1,
+      )

@@ -1,30 +1,28 @@
 -- What is printed of the small device, which service the arguments of examples ask for, and what is promised to a client that hangs up, and
 -- over two crashes.
-use Rattle.std.proofs.Common.{◌≡◌, ◌≤◌, ◌++◌, ℕ, zero, suc, Bool, true, false, List, [], ◌∷◌, Option, Some, None, Ok, Err, inl, inr, codes, ap, arith, drop, length, lit≤, refl, subst, sym, take, take_at, drop_at, ◌∙◌, append-nil}
+use Rattle.std.proofs.Common.{◌≡◌, ◌≤◌, ◌++◌, ℕ, zero, suc, Bool, true, false, List, [], ◌∷◌, Option, Some, None, Err, inl, inr, codes, ap, arith, drop, length, lit≤, refl, subst, sym, take, ◌∙◌, append-nil}
 use Rattle.std.proofs.lemmas.Bool.{true≢false}
 use Rattle.std.proofs.lemmas.List.{map-append}
-use Rattle.std.proofs.lemmas.Option.{same_Some}
 use Rattle.std.specs.Io.KnownBytes.{Appends}
 use Rattle.std.specs.Fmt.{digits}
 use Rattle.std.specs.Str.{bytes_eq}
 use Rattle.affinity.proofs.GeometryLemmas.{small}
 use Rattle.affinity.specs.declared.geometry.Geometry.{Geometry}
 use Rattle.recovery.specs.declared.inspecting.Shown.{Shown}
-use Rattle.disk.specs.Device.{Medium}
 use Rattle.protocol.specs.Grammar.{kind_named, message_of}
 use Rattle.protocol.specs.Words.{number_in_word}
 use Rattle.protocol.specs.declared.replies.Reply.TheVariants.{Summary}
 use Rattle.meaning.specs.Output.{answer_line, joined, output_lines, serial_output, state_after_line, state_after_lines}
 use Rattle.meaning.specs.State.{State, empty}
 use Rattle.device_map.specs.Layout.{image_size}
+use Rattle.commands.proofs.SerialServer.{answers_are}
 use Rattle.commands.specs.Lines.{formatted_line, shown_lines}
 use Rattle.commands.specs.Promise.{HasRunFrom}
-use Rattle.commands.specs.AnyRuns.{Operation, answers_in, lines_in}
-use Rattle.commands.specs.DurableLinearizability.{AreDurablyLinearizable, IsHistoryOf}
-use Rattle.commands.specs.CrashedRun.{CrashedRun, Killed, Returned}
+use Rattle.commands.specs.AnyRuns.{AreAnsweredBy, Did, IsHistoryOf, Operation, Run, answers_in, lines_in}
+use Rattle.commands.specs.SerialServer.{server_in}
 use Rattle.commands.specs.Services.{AsksServe, within_limits}
-use Rattle.commands.specs.declared.faults.Fault.TheVariants.{Device, Write}
-use Rattle.meaning.specs.ClosedPart.{IsClosedPart}
+use Rattle.commands.specs.declared.faults.Fault.TheVariants.{Write}
+use Rattle.meaning.specs.ClosedPart.{IsClosedPart, are_in_conflict}
 use Rattle.arguments.proofs.Examples as given
 
 small_is_formatted : formatted_line small ≡ codes "formatted 8840" ++ 10 ∷ []
@@ -143,45 +141,44 @@ it_is_not_lost h =
     true≢false (sym (is_so makes_it true makes_one makes_both r.acknowledged r.unacknowledged r.part w.2.1 r.first closed (begins ∙ r.answers))
     ∙ ap (λ (x : State). x.made (0, 0)) (sym r.state ∙ h.goes_on))
 
--- ---- two servers, one after the other, and a crash behind each
+-- ---- two runs, one after the other, and a crash behind each
 
 abbrev creates : List ℕ
 creates = codes "create 0 0 0"
 
-abbrev two_lines : List (List ℕ)
-two_lines = makes ∷ creates ∷ []
+-- What these runs did is what the serial server does from the empty state on. What the crashes left isn't looked at.
+abbrev AreOneServers : List Run → Type 0
+AreOneServers runs = (history : List Operation) × IsHistoryOf (are_in_conflict small) runs history × AreAnsweredBy (server_in small empty) history
 
--- a server that answered this, and ended without a fault; its device isn't looked at
-abbrev asked_for_a_summary : Medium → List ℕ → CrashedRun
-asked_for_a_summary m summary = record {
-  slots = 2;
-  end = Returned (Ok tt);
-  input = codes "summary\n";
-  before = [];
-  after = summary;
-  at_return = m;
-  crashed = m;
-}
+-- a run that answered this, and finished
+abbrev asked_for_a_summary : List ℕ → Run
+asked_for_a_summary summary = record { slots = 2; input = codes "summary\n"; out = summary; finished = true; left = [] }
 
--- The device of the first one failed when one of two lines was answered. The second one was asked for a summary. No device is looked at.
-abbrev two_servers : Medium → List ℕ → List CrashedRun
-two_servers m summary = record {
-  slots = 2;
-  end = Returned (Err Device);
-  input = codes "makevol 0 0\ncreate 0 0 0\n";
-  before = [];
-  after = codes "done\n";
-  at_return = m;
-  crashed = m;
-} ∷ asked_for_a_summary m summary ∷ []
+-- The first one ended with a fault when one of two lines was answered. The second one was asked for a summary.
+abbrev two_runs : List ℕ → List Run
+two_runs summary =
+    record { slots = 2; input = codes "makevol 0 0\ncreate 0 0 0\n"; out = codes "done\n"; finished = false; left = [] } ∷ asked_for_a_summary summary ∷ []
 
 abbrev operation : List ℕ → List ℕ → Operation
 operation line answer = record { line = line; answer = answer }
 
--- The first crash left the file, too, whose line had no answer, and the second server found it.
-the_file_is_found : (m : Medium) → AreDurablyLinearizable small empty (two_servers m (codes "summary 1 1 0\n"))
+-- what the run did that was asked
+finds : (summary : List ℕ) → Did (are_in_conflict small) (asked_for_a_summary summary) (operation asks summary ∷ []) []
+finds summary = record {
+  missing = [];
+  unanswered = [];
+  out = refl;
+  first = refl;
+  finished = λ ok. (refl, refl);
+  read = 0;
+  few = omega arith;
+  part = refl;
+}
+
+-- The first crash left the file, too, whose line had no answer, and the second run found it.
+the_file_is_found : AreOneServers (two_runs (codes "summary 1 1 0\n"))
 unfolding message_of kind_named number_in_word digits
-the_file_is_found m =
+the_file_is_found =
     let made = operation makes (codes "done\n") in
     let created = operation creates (codes "done\n") in
     let asked = operation asks (codes "summary 1 1 0\n") in (
@@ -192,47 +189,22 @@ the_file_is_found m =
         asked ∷ [],
         refl,
         record {
-          opened = λ fault e. cc e;
-          unanswered = 2;
-          written = (refl, refl);
-          unacknowledged = creates ∷ [];
+          missing = [];
+          unanswered = creates ∷ [];
+          out = refl;
           first = refl;
-          all_answered = tt;
-          closed = inl ([], refl, refl);
+          finished = λ ok. cc ok;
+          read = 2;
+          few = omega arith;
+          part = inl ([], refl, refl);
         },
-        (
-          asked ∷ [],
-          [],
-          [],
-          refl,
-          record {
-            opened = λ fault e. cc e;
-            unanswered = 0;
-            written = (refl, refl);
-            unacknowledged = [];
-            first = refl;
-            all_answered = refl;
-            closed = refl;
-          },
-          refl,
-        ),
+        (asked ∷ [], [], [], refl, finds (codes "summary 1 1 0\n"), refl),
       ),
-      refl,
+      (refl, (refl, (refl, tt))),
     )
 
 abbrev sums_up : List (List ℕ) → List ℕ
 sums_up ls = serial_output small (state_after_lines small empty ls) (codes "summary\n")
-
--- one of the two lines is acknowledged so
-one_answer : (n : ℕ) → codes "done\n" ≡ joined (output_lines small empty (take n two_lines)) → n ≡ 1
-unfolding message_of kind_named number_in_word digits
-one_answer zero answers = absurd (omega (arith, ap (λ (bs : List ℕ). length bs) answers))
-one_answer (suc zero) answers = refl
-one_answer (suc (suc n)) answers = absurd (omega (arith, ap (λ (bs : List ℕ). length bs) answers))
-
-with_file : sums_up (makes ∷ creates ∷ []) ≡ codes "summary 1 1 0\n"
-unfolding message_of kind_named number_in_word digits
-with_file = refl
 
 without_file : sums_up (makes ∷ []) ≡ codes "summary 1 0 0\n"
 unfolding message_of kind_named number_in_word digits
@@ -240,11 +212,6 @@ without_file = refl
 
 abbrev begins_anew : List ℕ → Bool
 begins_anew bs = bytes_eq bs (codes "summary 0 0 0\n")
-
--- behind it, and whatever part of the other one, there is a volume
-has_volume : (part : List (List ℕ)) → IsClosedPart small part (creates ∷ []) → begins_anew (sums_up (makes ∷ part)) ≡ false
-has_volume part (inl (rest, is, none)) = ap (λ (p : List (List ℕ)). begins_anew (sums_up (makes ∷ p))) (is ∙ ap (λ (r : List (List ℕ)). creates ∷ r) none) ∙ ap begins_anew with_file
-has_volume part (inr (apart, none)) = ap (λ (p : List (List ℕ)). begins_anew (sums_up (makes ∷ p))) none ∙ ap begins_anew without_file
 
 -- What one serial server answers to some operations and then to others, it answers to each of the two.
 each_part : (g : Geometry) (x : State) (os later : List Operation) → answers_in (os ++ later) ≡ output_lines g x (lines_in (os ++ later))
@@ -255,61 +222,31 @@ each_part g x (o ∷ os) later h =
     (ap (λ (ws : List (List ℕ)). take 1 ws ++ answers_in os) h ∙ ap (λ (ws : List (List ℕ)). answer_line g x (message_of o.line) ∷ ws) rest.0, rest.1)
 
 -- One that was asked for a summary gives the serial server's.
-summary_given : (m : Medium) (summary : List ℕ) (found : State) (later : List Operation) → IsHistoryOf small (asked_for_a_summary m summary ∷ []) later
+summary_given : (summary : List ℕ) (found : State) (later : List Operation) → IsHistoryOf (are_in_conflict small) (asked_for_a_summary summary ∷ []) later
     → answers_in later ≡ output_lines small found (lines_in later) → summary ≡ joined (output_lines small found (asks ∷ []))
-summary_given m summary found later h whole =
+summary_given summary found later h whole =
     let asked = h.4 in
+    let all = asked.finished refl in
     let next = each_part small found (h.0 ++ h.1) h.2 (subst (λ (os : List Operation). answers_in os ≡ output_lines small found (lines_in os)) h.3 whole) in
-    let alone : asks ∷ [] ≡ lines_in h.0 = asked.first ∙ ap (λ (ls : List (List ℕ)). lines_in h.0 ++ ls) asked.all_answered ∙ append-nil (lines_in h.0) in
-    same_Some _ _ asked.written.0 ∙ ap joined (each_part small found h.0 h.1 next.0).0 ∙ ap (λ (ls : List (List ℕ)). joined (output_lines small found ls)) (sym alone)
+    let alone : asks ∷ [] ≡ lines_in h.0 = asked.first ∙ ap (λ (ls : List (List ℕ)). lines_in h.0 ++ ls) all.1 ∙ append-nil (lines_in h.0) in
+    sym (append-nil summary) ∙ ap (λ (rest : List ℕ). summary ++ rest) (sym all.0) ∙ sym asked.out ∙ ap joined (each_part small found h.0 h.1 next.0).0
+    ∙ ap (λ (ls : List (List ℕ)). joined (output_lines small found ls)) (sym alone)
 
--- No one serial server gives these answers: by the second one the volume is lost, which the first one had acknowledged.
-it_is_not_lost_later : (m : Medium) → AreDurablyLinearizable small empty (two_servers m (codes "summary 0 0 0\n")) → ⊥
-it_is_not_lost_later m h =
-    let first = h.1 in
-    let ran = first.4 in
-    let n = length (lines_in first.0) in
-    let taken : take n two_lines ≡ lines_in first.0 = ap (take n) ran.first ∙ take_at (lines_in first.0) ran.unacknowledged n refl in
-    let others : drop n two_lines ≡ ran.unacknowledged = ap (drop n) ran.first ∙ drop_at (lines_in first.0) ran.unacknowledged n refl in
-    let whole = subst (λ (os : List Operation). answers_in os ≡ output_lines small empty (lines_in os)) first.3 h.2 in
-    let parts = each_part small empty (first.0 ++ first.1) first.2 whole in
-    let told = each_part small empty first.0 first.1 parts.0 in
-    let one = one_answer n (same_Some _ _ ran.written.0 ∙ ap joined told.0 ∙ ap (λ (ls : List (List ℕ)). joined (output_lines small empty ls)) (sym taken)) in
-    let closed = subst (λ (k : ℕ). IsClosedPart small (lines_in first.1) (take 2 (drop k two_lines))) one
-    (rw (← others, ran.written.1) at ran.closed) in
-    let found = state_after_lines small empty (lines_in (first.0 ++ first.1)) in
-    let sums = summary_given m (codes "summary 0 0 0\n") found first.2 first.5 parts.1 in
-    let were : lines_in (first.0 ++ first.1) ≡ makes ∷ lines_in first.1 = map-append (λ (o : Operation). o.line) first.0 first.1
-    ∙ ap (λ (ls : List (List ℕ)). ls ++ lines_in first.1) (sym taken ∙ ap (λ (k : ℕ). take k two_lines) one) in
-    true≢false (ap begins_anew (sums ∙ ap sums_up were) ∙ has_volume (lines_in first.1) closed)
-
--- A server that ends without a fault leaves no line of its input without an answer.
-abbrev a_silent_server : Medium → List CrashedRun
-a_silent_server m = asked_for_a_summary m [] ∷ []
-
-it_is_not_left_out : (m : Medium) → AreDurablyLinearizable small empty (a_silent_server m) → ⊥
+-- A run that finished leaves no line of its input without an answer.
+it_is_not_left_out : AreOneServers (asked_for_a_summary [] ∷ []) → ⊥
 unfolding message_of kind_named number_in_word digits
-it_is_not_left_out m h = absurd (omega (arith, ap (λ (bs : List ℕ). length bs) (summary_given m [] empty h.0 h.1 h.2)))
+it_is_not_left_out h = absurd (omega (arith, ap (λ (bs : List ℕ). length bs) (summary_given [] empty h.0 h.1 (answers_are small empty h.0 h.2))))
 
--- ---- servers that were killed, on the same lines as the client that hung up
+-- ---- runs that were killed, on the same lines as the client that hung up
 
--- A server was killed when its output held so much. Its device isn't looked at.
-abbrev killed_at : Medium → List ℕ → CrashedRun
-killed_at m after = record {
-  slots = 1;
-  end = Killed;
-  input = codes "makevol 0 0\nsummary\n";
-  before = [];
-  after = after;
-  at_return = m;
-  crashed = m;
-}
+-- A run was killed when so much had come out.
+abbrev killed_at : List ℕ → Run
+killed_at out = record { slots = 1; input = codes "makevol 0 0\nsummary\n"; out = out; finished = false; left = [] }
 
--- In the middle of the second answer. The next server finds the volume, whose line was answered.
-the_second_answer_is_torn : (m : Medium)
-    → AreDurablyLinearizable small empty (killed_at m (codes "done\nsum") ∷ asked_for_a_summary m (codes "summary 1 0 0\n") ∷ [])
+-- In the middle of the second answer. The next run finds the volume, whose line was answered.
+the_second_answer_is_torn : AreOneServers (killed_at (codes "done\nsum") ∷ asked_for_a_summary (codes "summary 1 0 0\n") ∷ [])
 unfolding message_of kind_named number_in_word digits
-the_second_answer_is_torn m =
+the_second_answer_is_torn =
     let made = operation makes (codes "done\n") in
     let asked = operation asks (codes "summary 1 0 0\n") in (
       made ∷ asked ∷ asked ∷ [],
@@ -319,32 +256,18 @@ the_second_answer_is_torn m =
         asked ∷ [],
         refl,
         record {
-          opened = λ fault e. cc e;
-          unanswered = 0;
-          written = (codes "done\nsummary 1 0 0\n", refl, (codes "done\nsum", codes "mary 1 0 0\n", refl, refl), refl);
-          unacknowledged = [];
+          missing = codes "mary 1 0 0\n";
+          unanswered = [];
+          out = refl;
           first = refl;
-          all_answered = tt;
-          closed = refl;
+          finished = λ ok. cc ok;
+          read = 0;
+          few = lit≤ tt;
+          part = refl;
         },
-        (
-          asked ∷ [],
-          [],
-          [],
-          refl,
-          record {
-            opened = λ fault e. cc e;
-            unanswered = 0;
-            written = (refl, refl);
-            unacknowledged = [];
-            first = refl;
-            all_answered = refl;
-            closed = refl;
-          },
-          refl,
-        ),
+        (asked ∷ [], [], [], refl, finds (codes "summary 1 0 0\n"), refl),
       ),
-      refl,
+      (refl, (refl, (refl, tt))),
     )
 
 with_both : begins_anew (sums_up (makes ∷ asks ∷ [])) ≡ false
@@ -352,28 +275,26 @@ unfolding message_of kind_named number_in_word digits
 with_both = refl
 
 -- It can't find the volume lost.
-it_is_not_lost_by_a_kill : (m : Medium)
-    → AreDurablyLinearizable small empty (killed_at m (codes "done\nsum") ∷ asked_for_a_summary m (codes "summary 0 0 0\n") ∷ []) → ⊥
-it_is_not_lost_by_a_kill m h =
+it_is_not_lost_by_a_kill : AreOneServers (killed_at (codes "done\nsum") ∷ asked_for_a_summary (codes "summary 0 0 0\n") ∷ []) → ⊥
+it_is_not_lost_by_a_kill h =
     let first = h.1 in
     let ran = first.4 in
-    let w = ran.written in
-    let whole = subst (λ (os : List Operation). answers_in os ≡ output_lines small empty (lines_in os)) first.3 h.2 in
+    let whole = subst (λ (os : List Operation). answers_in os ≡ output_lines small empty (lines_in os)) first.3 (answers_are small empty h.0 h.2) in
     let parts = each_part small empty (first.0 ++ first.1) first.2 whole in
     let told = each_part small empty first.0 first.1 parts.0 in
-    let begins = ap (λ (o : List ℕ). o ++ w.2.1) w.2.3 ∙ sym (w.1 ∙ w.2.2) ∙ ap joined told.0 in
-    let few = w.3 in
-    let closed = within_one ran.unanswered (lines_in first.1) ran.unacknowledged (omega (arith, few)) ran.closed in
+    let begins = sym ran.out ∙ ap joined told.0 in
+    let few = ran.few in
+    let closed = within_one ran.read (lines_in first.1) ran.unanswered (omega (arith, few)) ran.part in
     let found = state_after_lines small empty (lines_in (first.0 ++ first.1)) in
-    let sums = summary_given m (codes "summary 0 0 0\n") found first.2 first.5 parts.1 in
+    let sums = summary_given (codes "summary 0 0 0\n") found first.2 first.5 parts.1 in
     let were = map-append (λ (o : Operation). o.line) first.0 first.1 in
     true≢false (ap begins_anew (sums ∙ ap sums_up were)
-    ∙ is_so (λ ls. begins_anew (sums_up ls)) false (ap begins_anew without_file) with_both (lines_in first.0) ran.unacknowledged (lines_in first.1) w.2.1 ran.first closed begins)
+    ∙ is_so (λ ls. begins_anew (sums_up ls)) false (ap begins_anew without_file) with_both (lines_in first.0) ran.unanswered (lines_in first.1) ran.missing ran.first closed begins)
 
 -- Before the first answer: the crash has left no volume; or it has left the volume, whose answer did not come out.
-nothing_is_answered : (m : Medium) → AreDurablyLinearizable small empty (killed_at m [] ∷ killed_at m [] ∷ [])
+nothing_is_answered : AreOneServers (killed_at [] ∷ killed_at [] ∷ [])
 unfolding message_of kind_named number_in_word digits
-nothing_is_answered m =
+nothing_is_answered =
     let made = operation makes (codes "done\n") in (
       made ∷ [],
       (
@@ -382,13 +303,14 @@ nothing_is_answered m =
         made ∷ [],
         refl,
         record {
-          opened = λ fault e. cc e;
-          unanswered = 1;
-          written = ([], refl, ([], [], refl, refl), refl);
-          unacknowledged = makes ∷ asks ∷ [];
+          missing = [];
+          unanswered = makes ∷ asks ∷ [];
+          out = refl;
           first = refl;
-          all_answered = tt;
-          closed = inr (tt, refl);
+          finished = λ ok. cc ok;
+          read = 1;
+          few = omega arith;
+          part = inr (tt, refl);
         },
         (
           [],
@@ -396,16 +318,17 @@ nothing_is_answered m =
           [],
           refl,
           record {
-            opened = λ fault e. cc e;
-            unanswered = 1;
-            written = ([], refl, ([], [], refl, refl), refl);
-            unacknowledged = makes ∷ asks ∷ [];
+            missing = [];
+            unanswered = makes ∷ asks ∷ [];
+            out = refl;
             first = refl;
-            all_answered = tt;
-            closed = inl ([], refl, refl);
+            finished = λ ok. cc ok;
+            read = 1;
+            few = omega arith;
+            part = inl ([], refl, refl);
           },
           refl,
         ),
       ),
-      refl,
+      (refl, tt),
     )

@@ -14,7 +14,7 @@ use Rattle.meaning.proofs.OutputLemmas.{state_after_lines-append}
 use Rattle.meaning.specs.Output.{WritesOutput, answer_line, joined, output_lines, serial_output, state_after_line, state_after_lines}
 use Rattle.meaning.specs.State.{State}
 use Rattle.meaning.specs.ClosedPart.{IsClosedPart, are_in_conflict}
-use Rattle.commands.proofs.DurableLinearizability.{answers_in-served, has_all, leaves_none, lines_in-served, served, served-append}
+use Rattle.commands.proofs.Served.{answers_in-served, has_all, leaves_none, lines_in-served, served, served-append}
 use Rattle.commands.specs.AnyRuns.{AreAnsweredBy, KeepsPromise, Server, Serves, after, lines_in}
 use Rattle.commands.specs.Promise.{HasRunFrom, IsWritten, LeavesKilled, LeavesRun}
 use Rattle.commands.specs.SerialServer.{server_in, server_on}
@@ -122,10 +122,10 @@ module _ (g : Geometry) (slots : ℕ) (end : Result (Unit {0}) Fault) (old : Med
       (serves_from g slots own.0 end bytes held written c (rw (input_is, before_is) at (ran own.0 own.1 synced)))
 
 -- a run that returned, and a crash then
-pub run_keeps_promise : (g : Geometry) (slots : ℕ) (old new : Medium) (end : Result (Unit {0}) Fault) (input before written : Option (List ℕ)) (c : List ℕ)
-    → LeavesRun g (recovered_state g) slots old new end input before written → IsCrashImage new c → Keeps g slots old input (is_ok end) before written c
-run_keeps_promise g slots old new end input before written c ran leaves =
-    keeps_promise g slots end old input before written c (λ x holds synced. (ran x (holds, synced)).1 c leaves)
+module _ (g : Geometry) (slots : ℕ) (old new : Medium) (end : Result (Unit {0}) Fault) (input before written : Option (List ℕ)) (c : List ℕ) where
+  pub run_keeps_promise : LeavesRun g (recovered_state g) slots old new end input before written → IsCrashImage new c
+      → Keeps g slots old input (is_ok end) before written c
+  run_keeps_promise ran leaves = keeps_promise g slots end old input before written c (λ x holds synced. (ran x (holds, synced)).1 c leaves)
 
 -- a run that was killed
 pub kill_keeps_promise : (g : Geometry) (slots : ℕ) (old : Medium) (input before written : Option (List ℕ)) (c : List ℕ)

@@ -3,14 +3,12 @@ mod ShownText
 mod ServedDevice
 mod Acknowledged
 mod Promise
-mod DurableLinearizability
+mod Served
 mod SendsAgain
 mod AnyRuns
 mod KeepsPromise
 mod SerialServer
 mod AgreeingRuns
-mod AsBefore
-mod SameOutput
 mod Services
 mod Exits
 mod Examples

@@ -8,11 +8,8 @@ pub mod Promise
 pub mod UntilCrash
 pub mod InFile
 pub mod Kill
-pub mod CrashedRun
 pub mod AnyRuns
 pub mod SerialServer
-pub mod Restarts
 pub mod SendsAgain
-pub mod DurableLinearizability
 pub mod Services
 pub mod Exits

@@ -1,15 +1,12 @@
-//! The theorem's laws: of a service that is killed, of any number of servers, and of two services.
-ghost use Rattle.std.specs.Prelude.{◌≡◌, Bool, true, false, ℕ, List, [], ◌∷◌, Ok, Option, Some};
+//! The theorem's laws: of a service that is killed, of any number of runs, of what lines mean, and of two runs.
+ghost use Rattle.std.specs.Prelude.{◌≡◌, Bool, true, false, ℕ, List, [], ◌∷◌, Option, Some};
 ghost use Rattle.affinity.specs.declared.geometry.Geometry.{Geometry};
 ghost use Rattle.recovery.specs.Recovery.{recovered_state};
 ghost use Rattle.meaning.specs.ClosedPart.{are_in_conflict};
 ghost use Rattle.commands.specs.AnyRuns.{AreAnsweredBy, EachServes, IsHistoryOf, KeepsPromise, Operation, Run, Server, Serves, after, answers_in, lines_in};
 ghost use Rattle.commands.specs.Kill.{IsKilled};
 ghost use Rattle.commands.specs.SerialServer.{server_in, server_on};
-ghost use Rattle.commands.specs.Promise.{HoldsState, LeavesKilled};
-ghost use Rattle.commands.specs.DurableLinearizability.{AreDurablyLinearizable};
-ghost use Rattle.commands.specs.Restarts.{FollowCrashes, HaveAgreed};
-ghost use Rattle.commands.specs.CrashedRun.{CrashedRun, IsRunOn, Returned};
+ghost use Rattle.commands.specs.Promise.{LeavesKilled};
 ghost use Rattle.disk.specs.Device.{Medium};
 ghost use Rattle.commands.specs.SendsAgain.{SendsAgain, last_device};
 ghost use Rattle.meaning.specs.Output.{output_lines};
@@ -52,21 +49,13 @@ pub fn what_lines_mean()
 {}
 
 /// Two runs that finished, on devices that hold one server, and with the same input: the same came out of both, and what the crashes left
-/// holds one server. It does nothing; its contract is the law.
+/// holds one server. Their numbers of workers and of slots may differ, and their workers may have been scheduled in any way. So who sends
+/// one input to two of them has a replica, as long as neither crashes. It does nothing; its contract is the law.
 pub fn runs_that_finish_agree()
     ensures { (recover : List ℕ → Option Server) (conflict : List ℕ → List ℕ → Bool) (server : Server) (one other : Run)
         → Serves recover conflict server one → Serves recover conflict server other
         → one.finished ≡ true → other.finished ≡ true → other.input ≡ one.input
         → (other.out ≡ one.out) × (recover other.left ≡ recover one.left) }
-{}
-
-/// Any number of servers, of which some returned and others were killed, each on what a crash of the one before left of the device: all
-/// that they answered is what one serial server answers that never crashes. How bytes recover to a state is for the caller to choose: for
-/// `recovered_state g`, `serve_on` promises its part of those that returned, and `a_killed_service_loses_nothing` of those that were
-/// killed. It does nothing; its contract is the law.
-pub fn servers_are_durably_linearizable()
-    ensures { (g : Geometry) (recover : List ℕ → Option State) (start : State) (device : Medium) (runs : List CrashedRun)
-        → HoldsState recover device start → FollowCrashes g recover device runs → AreDurablyLinearizable g start runs }
 {}
 
 /// Sending again heals: a client of such runs sends to each the lines of which no answer has come out. If without a crash no change among
@@ -78,14 +67,4 @@ pub fn sending_again_leaves_no_trace()
         → (ls left : List (List ℕ)) → recover device ≡ Some (server_in g start) → EachServes recover (are_in_conflict g) device runs
         → IsState g start → AreAccepted g start ls → HaveSpace g start ls → SendsAgain runs ls left
         → (server : Server) × (recover (last_device device runs) ≡ Some server) × (after left server ≡ after ls (server_in g start)) }
-{}
-
-/// Two services that ended without a fault, on devices that held one state, and with the same input: they have written the same bytes, and
-/// leave one state, whatever a crash then does. Their numbers of workers and of slots may differ, and their workers may have been scheduled
-/// in any way. So who sends one input to two of them has a replica, as long as neither crashes. It does nothing; its contract is the law.
-pub fn services_without_a_fault_agree()
-    ensures { (g : Geometry) (recover : List ℕ → Option State) (start : State) (device other_device : Medium) (one other : CrashedRun)
-        → HoldsState recover device start → HoldsState recover other_device start
-        → one.end ≡ Returned (Ok tt) → other.end ≡ Returned (Ok tt) → other.input ≡ one.input
-        → IsRunOn g recover device one one.end → IsRunOn g recover other_device other other.end → HaveAgreed recover one other }
 {}
