@@ -189,9 +189,14 @@ pub in_aggregate_at-self : (g : Geometry) (a r : ℕ) → r ≡ 0 → in_aggrega
 unfolding in_aggregate_at
 in_aggregate_at-self g a r e = rw e refl
 
-pub in_aggregate_at-in_volume : (g : Geometry) (a r e : ℕ) → (r ≡ 0 → ⊥) → e ≡ volume_size g → in_aggregate_at g a r ≡ in_volume_at g a ((r - 1) / e) ((r - 1) % e)
+in_aggregate_at-in_volume : (g : Geometry) (a r e : ℕ) → (r ≡ 0 → ⊥) → e ≡ volume_size g → in_aggregate_at g a r ≡ in_volume_at g a ((r - 1) / e) ((r - 1) % e)
 unfolding in_aggregate_at
 in_aggregate_at-in_volume g a r e h k = let more : (r == 0) ≡ false = grind (arith, nat_tests) in rw (k, more) refl
+
+pub path_at-in_volume : (g : Geometry) (n d e : ℕ) → (n ≡ 0 → ⊥) → d ≡ aggregate_size g → ((n - 1) % d ≡ 0 → ⊥) → e ≡ volume_size g
+    → path_at g n ≡ in_volume_at g ((n - 1) / d) (((n - 1) % d - 1) / e) (((n - 1) % d - 1) % e)
+path_at-in_volume g n d e not_serial size not_aggregate size' =
+    path_at-in_aggregate g n d not_serial size ∙ in_aggregate_at-in_volume g ((n - 1) / d) ((n - 1) % d) e not_aggregate size'
 
 pub in_volume_at-self : (g : Geometry) (a v r : ℕ) → r ≡ 0 → in_volume_at g a v r ≡ volume a v
 unfolding in_volume_at

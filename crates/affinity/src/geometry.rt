@@ -13,28 +13,28 @@ use std::fmt;
 /// The geometry of a server: eight sizes, each in its range.
 #[derive(Clone, Copy, Debug, PartialEq, Eq)]
 pub struct Geometry {
-    /// Aggregates of the server, 1 to 4.
+    /// Aggregates of the server.
     pub aggregates: u16,
 
-    /// Volumes of each aggregate, 1 to 8.
+    /// Volumes of each aggregate.
     pub volumes: u16,
 
-    /// Stripes of each volume, 1 to 8.
+    /// Stripes of each volume.
     pub stripes: u16,
 
-    /// Consecutive blocks in one stripe, before the file goes on in the next one, 1 to 64.
+    /// Consecutive blocks in one stripe, before the file goes on in the next one.
     pub width: u16,
 
-    /// Files of each volume, 1 to 64.
+    /// Files of each volume.
     pub files: u16,
 
-    /// Blocks of each file, 1 to 256.
+    /// Blocks of each file.
     pub blocks: u16,
 
-    /// Blocks that a stripe can hold, 1 to 64.
+    /// Blocks that a stripe can hold.
     pub quota: u16,
 
-    /// Records in each half of the log, 4 to 1024.
+    /// Records in each half of the log.
     pub half: u16,
     pub ghost aggregates_range: { IsWithin 1 MOST_AGGREGATES aggregates },
     pub ghost volumes_range: { IsWithin 1 MOST_VOLUMES volumes },
