@@ -138,9 +138,20 @@ SpellsBytes size digits whole = (bytes : List ℕ) × (decode_of digits ≡ Ok b
 
 -- The words `behind` are what follows the numbers of the message in its line: the digits of its block or label, or no word.
 abbrev pub IsData : Msg → List (List ℕ) → Type 0
+IsData (MakeVol a v) behind = behind ≡ []
+IsData (DropVol a v) behind = behind ≡ []
+IsData (Create a v f) behind = behind ≡ []
+IsData (Delete a v f) behind = behind ≡ []
+IsData (Seal a v) behind = behind ≡ []
+IsData (Unseal a v) behind = behind ≡ []
 IsData (Write a v f b content) behind = (digits : List ℕ) × (behind ≡ digits ∷ []) × SpellsBytes BLOCK_SIZE digits content.0
+IsData (Punch a v f b) behind = behind ≡ []
+IsData (Read a v f b) behind = behind ≡ []
+IsData (ListFiles a v) behind = behind ≡ []
+IsData (Usage a v) behind = behind ≡ []
+IsData Summary behind = behind ≡ []
 IsData (SetLabel a v bytes) behind = (digits : List ℕ) × (behind ≡ digits ∷ []) × SpellsBytes LABEL_SIZE digits bytes
-IsData _ behind = behind ≡ []
+IsData (Label a v) behind = behind ≡ []
 
 -- The line spells the message: its keyword, its numbers in decimal and its data, separated by single spaces.
 pub record Spells (line : List ℕ) (m : Msg) : Type 0 where

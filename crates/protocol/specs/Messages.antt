@@ -44,13 +44,9 @@ numbers Summary = []
 numbers (SetLabel a v bytes) = a ∷ v ∷ []
 numbers (Label a v) = a ∷ v ∷ []
 
--- four numbers: those of the list, and zeros after them
-abbrev pub filled : List ℕ → List ℕ
-filled ns = take 4 (ns ++ replicate 4 0)
-
 -- the aggregate, volume, file and block of a message, with 0 for each that it doesn't have
 abbrev pub four_numbers : Msg → List ℕ
-four_numbers m = filled (numbers m)
+four_numbers m = take 4 (numbers m ++ replicate 4 0)
 
 -- whether each number that the message has is below its limit
 abbrev pub is_in_range : Geometry → Msg → Bool
@@ -70,6 +66,17 @@ IsBlock content = AreSizedBytes BLOCK_SIZE content.0
 
 -- The data of the message are bytes: `BLOCK_SIZE` in a block, `LABEL_SIZE` in a label.
 abbrev pub IsMessage : Msg → Type 0
+IsMessage (MakeVol a v) = Unit {0}
+IsMessage (DropVol a v) = Unit {0}
+IsMessage (Create a v f) = Unit {0}
+IsMessage (Delete a v f) = Unit {0}
+IsMessage (Seal a v) = Unit {0}
+IsMessage (Unseal a v) = Unit {0}
 IsMessage (Write a v f b content) = IsBlock content
+IsMessage (Punch a v f b) = Unit {0}
+IsMessage (Read a v f b) = Unit {0}
+IsMessage (ListFiles a v) = Unit {0}
+IsMessage (Usage a v) = Unit {0}
+IsMessage Summary = Unit {0}
 IsMessage (SetLabel a v bytes) = AreSizedBytes LABEL_SIZE bytes
-IsMessage _ = Unit {0}
+IsMessage (Label a v) = Unit {0}
