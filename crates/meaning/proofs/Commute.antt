@@ -3,6 +3,7 @@ use Rattle.std.proofs.Common.{arith, ◌≡◌, ℕ, ◌^◌, Bool, true, false,
 use Rattle.std.specs.Prelude.{◌&&◌, ◌||◌, not, ◌==◌, nat_lt, if◌then◌else◌, cond, Some, None, find, is_some, unwrap_or}
 use Rattle.std.specs.List.{AllByRecursion}
 use Rattle.std.proofs.lemmas.Bool.{and_parts, and_from, eqb-true, eq-eqb, true≢false, not_from_false, or_left}
+use Rattle.std.specs.Option.{option_map_or}
 use Rattle.affinity.specs.declared.geometry.Geometry.{Geometry}
 use Rattle.affinity.specs.Geometry.{stripe_of}
 use Rattle.affinity.specs.Path.{Path, is_prefix, are_related, volume, logical, stripe, label}
@@ -11,11 +12,12 @@ use Rattle.protocol.specs.declared.messages.Msg.{Msg}
 use Rattle.protocol.specs.declared.messages.Msg.TheVariants.{MakeVol, DropVol, Create, Delete, Seal, Unseal, Write, Punch, Read, List as ListFiles, Usage as AskUsage, Summary as AskSummary, SetLabel, Label as AskLabel}
 use Rattle.protocol.specs.declared.replies.Refusal.{Refusal}
 use Rattle.protocol.specs.declared.replies.Refusal.TheVariants.{Volume, Sealed, File, Space}
-use Rattle.protocol.specs.declared.replies.Reply.TheVariants.{Files, Usage, Summary, Label}
+use Rattle.protocol.specs.declared.replies.Reply.TheVariants.{Hole, Block as Found, Files, Usage, Summary, Label}
 use Rattle.protocol.specs.Messages.{kind, four_numbers, path_of}
-use Rattle.meaning.specs.State.{State, sum_below, one_if, blocks_in_stripe, sum_over_volumes, key}
+use Rattle.meaning.specs.State.{State, sum_below, blocks_in_stripe, sum_over_volumes, key}
+use Rattle.meaning.proofs.Sums.{one_if}
 use Rattle.meaning.specs.Refusals.{checks, passes, refusal}
-use Rattle.meaning.specs.Step.{effect, accepted_reply, reply_and_state, reply_to, next_state, block_reply, no_label}
+use Rattle.meaning.specs.Step.{effect, accepted_reply, reply_to, next_state, no_label}
 use Rattle.meaning.specs.Facts.{OfMade, OfSealed, OfLabel, OfFile, OfBlock}
 use Rattle.meaning.specs.Subtrees.{AgreeOn}
 use Rattle.meaning.specs.Commute.{outside, Commute}
@@ -124,7 +126,7 @@ module _ (g : Geometry) (R : Path → Bool) (x y : State) (h : AgreeOn g R x y) 
   same_refusal m covers = same_find (test x m) (test y m) (checks (kind m)) (same_tests m covers)
 
   same_answer : (m : Msg) → ((q : Path) → are_related (path_of g m) q ≡ true → R q ≡ true) → accepted_reply g x m ≡ accepted_reply g y m
-  same_answer (Read a v f b) covers = ap block_reply (h.same a v (OfBlock f b) (covers _ (are_related-refl (stripe a v (stripe_of g f b)))))
+  same_answer (Read a v f b) covers = ap (λ o. option_map_or Found o Hole) (h.same a v (OfBlock f b) (covers _ (are_related-refl (stripe a v (stripe_of g f b)))))
   same_answer (ListFiles a v) covers = λ i. Files (sum_below g.files (λ f. if h.same a v (OfFile f) (covers (logical a v) (are_related-refl (logical a v))) i then 2 ^ f else 0))
   same_answer (AskUsage a v) covers =
       let below : (q : Path) → R (a ∷ v ∷ q) ≡ true = λ q. covers (a ∷ v ∷ q) (or_left _ _ (one a _ (one v true refl))) in
@@ -150,7 +152,7 @@ reads_only g R x y m h covers = grind (arith, same_refusal g R x y h m covers, e
 pub changes_only : (g : Geometry) (x : State) (m : Msg) → AgreeOn g (outside (path_of g m)) (next_state g x m) x
 changes_only g x m = by (refusal g x m)
   where
-    by : (r : Option Refusal) → AgreeOn g (outside (path_of g m)) (reply_and_state r (accepted_reply g x m) (effect x m) x).1 x
+    by : (r : Option Refusal) → AgreeOn g (outside (path_of g m)) (option_map_or (λ why. x) r (effect x m)) x
     by None = effect_only g x m
     by (Some why) = agree-refl x
 

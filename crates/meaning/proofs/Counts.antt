@@ -4,8 +4,8 @@ use Rattle.std.specs.Prelude.{◌&&◌, ◌==◌, is_some}
 use Rattle.affinity.specs.declared.geometry.Geometry.{Geometry}
 use Rattle.affinity.specs.Geometry.{stripe_of}
 use Rattle.affinity.proofs.PlaceLemmas.{group_below}
-use Rattle.meaning.specs.State.{State, sum_below, one_if, file_count, block_count, blocks_in_stripe, sum_over_volumes}
-use Rattle.meaning.proofs.Sums.{sum_below-le_times, count_below-le, sum_below-same, sum_below-swap, sum_below_at}
+use Rattle.meaning.specs.State.{State, sum_below, file_count, block_count, blocks_in_stripe, sum_over_volumes}
+use Rattle.meaning.proofs.Sums.{sum_below-le_times, count_below-le, sum_below-same, sum_below-swap, sum_below_at, one_if}
 
 -- ---- bounds
 

@@ -7,7 +7,8 @@ use Rattle.std.proofs.lemmas.Nat.{mod-pow-add, ones_cat, ones_le_self, zero_from
 use Rattle.std.proofs.lemmas.Nat.Bits.{bit_at_above, bit_at-lt, same_from_bits}
 use Rattle.std.proofs.Math.Nat.{pow-succ', mod-eq_of_lt}
 use Rattle.protocol.specs.Replies.{has_file}
-use Rattle.meaning.specs.State.{sum_below, count_below, one_if}
+use Rattle.meaning.specs.State.{sum_below, count_below}
+use Rattle.meaning.proofs.Sums.{one_if}
 use Rattle.meaning.proofs.FileBits.{none_below}
 
 -- what stays of a number modulo the next power of two: one bit more

@@ -3,6 +3,7 @@ use Rattle.std.proofs.Common.{◌≡◌, ℕ, zero, suc, ◌+◌, ◌<◌, ◌�
 use Rattle.std.specs.Prelude.{◌&&◌, ◌||◌, not, ◌==◌, nat_lt, if◌then◌else◌, cond, Some, None, find, is_some, IfSome, replicate}
 use Rattle.std.specs.List.{AllByRecursion}
 use Rattle.std.proofs.lemmas.Bool.{and_parts, and_from, or_cases, or_right, eqb-true, ltb-true, true≢false, not_from_false, and_right}
+use Rattle.std.specs.Option.{option_map_or}
 use Rattle.affinity.specs.declared.geometry.Geometry.{Geometry}
 use Rattle.affinity.specs.Geometry.{stripe_of}
 use Rattle.affinity.specs.Path.{is_prefix, stripe}
@@ -15,15 +16,15 @@ use Rattle.protocol.specs.declared.messages.Msg.TheVariants.{MakeVol, DropVol, C
 use Rattle.protocol.specs.declared.replies.Refusal.{Refusal}
 use Rattle.protocol.specs.declared.replies.Refusal.TheVariants.{Space}
 use Rattle.protocol.specs.Messages.{AreSizedBytes, IsBlock, IsMessage, kind, four_numbers}
-use Rattle.meaning.specs.State.{State, IsState, empty, VolumeKey, FileKey, BlockKey, is_volume, is_file, is_block, is_file_of, is_block_of, is_block_of_file, one_if, blocks_in_stripe}
+use Rattle.meaning.specs.State.{State, IsState, empty, VolumeKey, FileKey, BlockKey, is_volume, is_file, is_block, is_file_of, is_block_of, is_block_of_file, blocks_in_stripe}
 use Rattle.meaning.specs.Refusals.{checks, passes, refusal}
-use Rattle.meaning.specs.Step.{effect, accepted_reply, reply_and_state, next_state, state_after_all, no_label}
+use Rattle.meaning.specs.Step.{effect, next_state, state_after_all, no_label}
 use Rattle.meaning.specs.Commute.{outside}
 use Rattle.meaning.specs.Removals.{without_blocks}
 use Rattle.meaning.proofs.Effects.{effect_only}
 use Rattle.meaning.proofs.Commute.{same_group_count}
 use Rattle.meaning.proofs.Keys.{the_volume, the_file, the_block, other_file, other_place}
-use Rattle.meaning.proofs.Sums.{sum_below-le, sum_below_one_more, sum_below-zero, one_if-le, one_if_from}
+use Rattle.meaning.proofs.Sums.{sum_below-le, sum_below_one_more, sum_below-zero, one_if-le, one_if_from, one_if}
 
 pub empty_is_state : (g : Geometry) → IsState g empty
 empty_is_state g = record {
@@ -324,7 +325,7 @@ effect_kept g x h _ w p = h
 pub step_kept : (g : Geometry) (x : State) (m : Msg) → IsState g x → IsMessage m → IsState g (next_state g x m)
 step_kept g x m h w = by (refusal g x m) refl
   where
-    by : (r : Option Refusal) → refusal g x m ≡ r → IsState g (reply_and_state r (accepted_reply g x m) (effect x m) x).1
+    by : (r : Option Refusal) → refusal g x m ≡ r → IsState g (option_map_or (λ why. x) r (effect x m))
     by None e = effect_kept g x h m w (passed (passes g x (kind m) (four_numbers m)) (checks (kind m)) e)
     by (Some why) e = h
 

@@ -13,6 +13,7 @@ pub mod OutputLemmas
 pub mod TakesLines
 -- For runs of servers.
 pub mod SendingAgain
+mod StripeSizes
 -- For the serial server: the keys of ordered maps, and the tests by kind.
 pub mod Keys
 pub mod ReadStep

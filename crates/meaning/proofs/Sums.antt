@@ -1,8 +1,12 @@
 -- Sums over the numbers below a bound.
 use Rattle.std.proofs.Common.{◌≡◌, ℕ, zero, suc, ◌+◌, ◌*◌, ◌<◌, ◌≤◌, Bool, true, false, refl, ap, sym, ◌∙◌, ⊎_elim, arith}
-use Rattle.std.specs.Prelude.{◌==◌, ◌&&◌}
+use Rattle.std.specs.Prelude.{◌==◌, ◌&&◌, if◌then◌else◌}
 use Rattle.std.proofs.lemmas.Bool.{cases_eq, eq-eqb, eqb-true, false_from_ne_true}
-use Rattle.meaning.specs.State.{sum_below, one_if, count_below}
+use Rattle.meaning.specs.State.{sum_below, count_below}
+
+-- 1 where it is so, else 0
+abbrev pub one_if : Bool → ℕ
+one_if is_so = if is_so then 1 else 0
 
 pub sum_below-le : (n : ℕ) (f h : ℕ → ℕ) → ((i : ℕ) → i < n → f i ≤ h i) → sum_below n f ≤ sum_below n h
 sum_below-le zero f h each = omega arith

@@ -1,6 +1,7 @@
 -- Statement for clients: The output of a serial server, from any state on: one line for each line of the input. A server that runs messages
 -- at once is to write the same.
 use Rattle.std.specs.Prelude.{◌≡◌, ◌≢◌, ℕ, List, [], ◌∷◌, ◌++◌, take, Option, Some, None}
+use Rattle.std.specs.Option.{option_map_or}
 use Rattle.std.specs.Io.KnownBytes.{Appends}
 use Rattle.std.specs.List.{flat_map, AllByRecursion}
 use Rattle.affinity.specs.declared.geometry.Geometry.{Geometry}
@@ -13,12 +14,10 @@ use Rattle.meaning.specs.Step.{reply_to, next_state}
 
 -- the answer to a line, and the state after it, by the message that it spells
 abbrev pub answer_line : Geometry → State → Option Msg → List ℕ
-answer_line g x None = no_message
-answer_line g x (Some m) = reply_line (reply_to g x m)
+answer_line g x spelled = option_map_or (λ m. reply_line (reply_to g x m)) spelled no_message
 
 abbrev pub state_after_line : Geometry → State → Option Msg → State
-state_after_line g x None = x
-state_after_line g x (Some m) = next_state g x m
+state_after_line g x spelled = option_map_or (next_state g x) spelled x
 
 -- the lines that answer the lines of an input, from a state on
 abbrev pub output_lines : Geometry → State → List (List ℕ) → List (List ℕ)

@@ -19,18 +19,33 @@ checks kinds.MakeVol = Range ∷ Exists ∷ []
 checks kinds.DropVol = Range ∷ Volume ∷ Sealed ∷ []
 checks kinds.Create = Range ∷ Volume ∷ Sealed ∷ Exists ∷ []
 checks kinds.Delete = Range ∷ Volume ∷ Sealed ∷ File ∷ []
+checks kinds.Seal = Range ∷ Volume ∷ []
+checks kinds.Unseal = Range ∷ Volume ∷ []
 checks kinds.Write = Range ∷ Volume ∷ Sealed ∷ File ∷ Space ∷ []
 checks kinds.Punch = Range ∷ Volume ∷ Sealed ∷ File ∷ []
 checks kinds.Read = Range ∷ Volume ∷ File ∷ []
+checks kinds.List = Range ∷ Volume ∷ []
+checks kinds.Usage = Range ∷ Volume ∷ []
 checks kinds.Summary = []
 checks kinds.SetLabel = Range ∷ Volume ∷ Sealed ∷ []
-checks _ = Range ∷ Volume ∷ []
+checks kinds.Label = Range ∷ Volume ∷ []
 
 -- whether what a message of the kind makes is there already, by the key that it names
 abbrev pub exists : State → Kind → BlockKey → Bool
 exists x kinds.MakeVol n = x.made (n.0, n.1)
+exists x kinds.DropVol n = false
 exists x kinds.Create n = x.files (n.0, n.1, n.2)
-exists x _ n = false
+exists x kinds.Delete n = false
+exists x kinds.Seal n = false
+exists x kinds.Unseal n = false
+exists x kinds.Write n = false
+exists x kinds.Punch n = false
+exists x kinds.Read n = false
+exists x kinds.List n = false
+exists x kinds.Usage n = false
+exists x kinds.Summary n = false
+exists x kinds.SetLabel n = false
+exists x kinds.Label n = false
 
 -- whether a message of the kind with these four numbers passes a check
 abbrev pub passes : Geometry → State → Kind → List ℕ → Refusal → Bool
@@ -39,8 +54,7 @@ passes g x k ns Volume = let n = key_of ns in x.made (n.0, n.1)
 passes g x k ns Exists = not (exists x k (key_of ns))
 passes g x k ns Sealed = let n = key_of ns in not (x.sealed (n.0, n.1))
 passes g x k ns File = let n = key_of ns in x.files (n.0, n.1, n.2)
-passes g x k ns Space =
-    let n = key_of ns in is_some (x.blocks n) || nat_lt (blocks_in_stripe g x n.0 n.1 (stripe_of g n.2 n.3)) g.quota
+passes g x k ns Space = let n = key_of ns in is_some (x.blocks n) || nat_lt (blocks_in_stripe g x n.0 n.1 (stripe_of g n.2 n.3)) g.quota
 
 -- why a message of the kind with these four numbers is refused: the first check that fails, if one does
 abbrev pub refusal_by : Geometry → State → Kind → List ℕ → Option Refusal

@@ -1,5 +1,5 @@
 -- Statement for clients: A client that sends its unanswered lines again after each crash.
-use Rattle.std.specs.Prelude.{◌≡◌, ℕ, ◌≤◌, true, false, ◌&&◌, ◌==◌, List, [], ◌∷◌, ◌++◌, Option, Some, None, is_some}
+use Rattle.std.specs.Prelude.{◌≡◌, ℕ, ◌≤◌, ◌+◌, ◌-◌, ◌*◌, ◌/◌, true, false, ◌&&◌, ◌==◌, List, [], ◌∷◌, ◌++◌, Option, Some, None, is_some}
 use Rattle.std.specs.List.{flat_map}
 use Rattle.affinity.specs.Geometry.{stripe_of}
 use Rattle.affinity.specs.Kind.{is_changing}
@@ -47,6 +47,10 @@ WritesThere x _ = Unit {0}
 -- how many blocks of a volume lie in a stripe, whether they are there or not
 abbrev pub stripe_size : Geometry → ℕ → ℕ
 stripe_size g s = sum_below g.files (λ f. count_below g.blocks (λ b. stripe_of g f b == s))
+
+-- how often the blocks of a file go round over the stripes; the last time perhaps not over all of them
+abbrev pub rounds : Geometry → ℕ
+rounds g = (g.blocks + g.width * g.stripes - 1) / (g.width * g.stripes)
 
 -- ---- tries
 

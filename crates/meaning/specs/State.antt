@@ -87,13 +87,9 @@ abbrev pub sum_below : ℕ → (ℕ → ℕ) → ℕ
 sum_below zero f = 0
 sum_below (suc n) f = sum_below n f + f n
 
-abbrev pub one_if : Bool → ℕ
-one_if true = 1
-one_if false = 0
-
 -- how many numbers below n pass the test
 abbrev pub count_below : ℕ → (ℕ → Bool) → ℕ
-count_below n passes = sum_below n (λ i. one_if (passes i))
+count_below n passes = sum_below n (λ i. if passes i then 1 else 0)
 
 -- how many files a volume has, how many blocks, and how many blocks in one of its stripes
 abbrev pub file_count : Geometry → State → ℕ → ℕ → ℕ

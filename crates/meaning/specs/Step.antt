@@ -1,16 +1,16 @@
 -- Statement for clients: What each message does: its effect and its reply; and lists of messages, one after the other.
-use Rattle.std.specs.Prelude.{ℕ, ◌^◌, Bool, true, false, ◌&&◌, List, [], ◌∷◌, replicate, unwrap_or, if◌then◌else◌, Option, Some, None}
+use Rattle.std.specs.Prelude.{ℕ, ◌^◌, Bool, true, false, ◌&&◌, List, [], ◌∷◌, replicate, unwrap_or, if◌then◌else◌, Option}
+use Rattle.std.specs.Option.{option_map_or}
 use Rattle.affinity.specs.declared.geometry.Geometry.{Geometry}
 use Rattle.affinity.specs.Kind.{is_changing}
 use Rattle.protocol.specs.declared.sizes.TheConstants.{LABEL_SIZE}
-use Rattle.protocol.specs.declared.messages.Block.{Block}
 use Rattle.protocol.specs.declared.messages.Msg.{Msg}
 use Rattle.protocol.specs.declared.messages.Msg.TheVariants.{MakeVol, DropVol, Create, Delete, Seal, Unseal, Write, Punch, Read, List as ListFiles, Usage as AskUsage, Summary as AskSummary, SetLabel, Label as AskLabel}
 use Rattle.protocol.specs.declared.replies.Refusal.{Refusal}
 use Rattle.protocol.specs.declared.replies.Reply.{Reply}
 use Rattle.protocol.specs.declared.replies.Reply.TheVariants.{Done, Hole, Block as Found, Files, Usage, Summary, Refused, Label}
 use Rattle.protocol.specs.Messages.{kind}
-use Rattle.meaning.specs.State.{State, adding, dropping, setting, clearing, is_volume, is_file, is_block, is_file_of, is_block_of, is_block_of_file, sum_below, one_if, file_count, block_count, sum_over_volumes}
+use Rattle.meaning.specs.State.{State, adding, dropping, setting, clearing, is_volume, is_file, is_block, is_file_of, is_block_of, is_block_of_file, sum_below, file_count, block_count, sum_over_volumes}
 use Rattle.meaning.specs.Refusals.{refusal}
 
 -- ---- one message
@@ -35,13 +35,12 @@ effect x (Seal a v) = record x { sealed = adding (is_volume a v) x.sealed }
 effect x (Unseal a v) = record x { sealed = dropping (is_volume a v) x.sealed }
 effect x (Write a v f b content) = record x { blocks = setting (is_block a v f b) content x.blocks }
 effect x (Punch a v f b) = record x { blocks = clearing (is_block a v f b) x.blocks }
+effect x (Read a v f b) = x
+effect x (ListFiles a v) = x
+effect x (AskUsage a v) = x
+effect x AskSummary = x
 effect x (SetLabel a v bytes) = record x { labels = setting (is_volume a v) bytes x.labels }
-effect x _ = x
-
--- the reply to a `read`, by the block that is there, if one is
-abbrev pub block_reply : Option Block → Reply
-block_reply None = Hole
-block_reply (Some content) = Found content
+effect x (AskLabel a v) = x
 
 -- the files of a volume as the bits of a number: bit f is 1 if file f is there
 abbrev pub file_bits : Geometry → State → ℕ → ℕ → ℕ
@@ -49,33 +48,32 @@ file_bits g x a v = sum_below g.files (λ f. if x.files (a, v, f) then 2 ^ f els
 
 -- the reply to a message that passes its checks
 abbrev pub accepted_reply : Geometry → State → Msg → Reply
-accepted_reply g x (Read a v f b) = block_reply (x.blocks (a, v, f, b))
+accepted_reply g x (MakeVol a v) = Done
+accepted_reply g x (DropVol a v) = Done
+accepted_reply g x (Create a v f) = Done
+accepted_reply g x (Delete a v f) = Done
+accepted_reply g x (Seal a v) = Done
+accepted_reply g x (Unseal a v) = Done
+accepted_reply g x (Write a v f b content) = Done
+accepted_reply g x (Punch a v f b) = Done
+accepted_reply g x (Read a v f b) = option_map_or Found (x.blocks (a, v, f, b)) Hole
 accepted_reply g x (ListFiles a v) = Files (file_bits g x a v)
 accepted_reply g x (AskUsage a v) = Usage (file_count g x a v) (block_count g x a v) (x.sealed (a, v))
-accepted_reply g x AskSummary = Summary (sum_over_volumes g (λ a v. one_if (x.made (a, v)))) (sum_over_volumes g (file_count g x))
+accepted_reply g x AskSummary = Summary (sum_over_volumes g (λ a v. if x.made (a, v) then 1 else 0)) (sum_over_volumes g (file_count g x))
     (sum_over_volumes g (block_count g x))
+accepted_reply g x (SetLabel a v bytes) = Done
 accepted_reply g x (AskLabel a v) = Label (unwrap_or (x.labels (a, v)) no_label)
-accepted_reply g x _ = Done
 
 -- the reply to a message that changes something, by why it is refused, if it is
 abbrev pub done_or_refused : Option Refusal → Reply
-done_or_refused None = Done
-done_or_refused (Some why) = Refused why
+done_or_refused why = option_map_or Refused why Done
 
--- the reply and the state after a message, by why it is refused, if it is
-abbrev pub reply_and_state : Option Refusal → Reply → State → State → Reply × State
-reply_and_state None reply new old = (reply, new)
-reply_and_state (Some why) reply new old = (Refused why, old)
-
--- the reply and the new state: a refusal changes nothing
-abbrev pub step : Geometry → State → Msg → Reply × State
-step g x m = reply_and_state (refusal g x m) (accepted_reply g x m) (effect x m) x
-
+-- the reply to a message, and the state after it: a refusal changes nothing
 abbrev pub reply_to : Geometry → State → Msg → Reply
-reply_to g x m = (step g x m).0
+reply_to g x m = option_map_or Refused (refusal g x m) (accepted_reply g x m)
 
 abbrev pub next_state : Geometry → State → Msg → State
-next_state g x m = (step g x m).1
+next_state g x m = option_map_or (λ why. x) (refusal g x m) (effect x m)
 
 -- ---- messages one after the other
 
