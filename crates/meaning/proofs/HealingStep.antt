@@ -3,6 +3,7 @@ use Rattle.std.proofs.Common.{◌≡◌, ◌⊎◌, ℕ, Bool, true, false, List
 use Rattle.std.specs.List.{AllByRecursion}
 use Rattle.std.specs.Prelude.{◌&&◌, ◌||◌, not, ◌==◌, if◌then◌else◌, cond, find}
 use Rattle.std.proofs.lemmas.Bool.{and_parts, and_right, eqb-true, not-true, true≢false, cases_Bool, false_from_ne_true}
+use Rattle.std.specs.Option.{option_map_or}
 use Rattle.affinity.specs.Kind.{is_changing}
 use Rattle.affinity.specs.declared.geometry.Geometry.{Geometry}
 use Rattle.protocol.specs.declared.messages.Block.{Block}
@@ -11,11 +12,10 @@ use Rattle.protocol.specs.declared.messages.Msg.TheVariants.{MakeVol, DropVol, C
 use Rattle.affinity.specs.declared.kinds.Kind.TheVariants as kinds
 use Rattle.protocol.specs.declared.replies.Refusal.{Refusal}
 use Rattle.protocol.specs.declared.replies.Refusal.TheVariants.{Space}
-use Rattle.protocol.specs.declared.replies.Reply.{Reply}
 use Rattle.protocol.specs.Messages.{kind, four_numbers}
 use Rattle.meaning.specs.State.{State, VolumeKey, is_volume, is_block, key}
 use Rattle.meaning.specs.Refusals.{checks, passes}
-use Rattle.meaning.specs.Step.{effect, accepted_reply, reply_and_state, next_state, no_label}
+use Rattle.meaning.specs.Step.{effect, next_state, no_label}
 use Rattle.meaning.proofs.Keys.{the_volume, picks_volume, picks_file}
 
 -- ---- a message runs, or doesn't
@@ -37,17 +37,17 @@ abbrev pub if_ran : Bool → State → Msg → State
 if_ran true u m = effect u m
 if_ran false u m = u
 
-found_or_all : (p : Refusal → Bool) (ts : List Refusal) (reply : Reply) (new old : State) (b : Bool → State) → b true ≡ new → b false ≡ old
-    → (reply_and_state (find (λ t. not (p t)) ts) reply new old).1 ≡ b (all_pass p ts)
-found_or_all p [] reply new old b ran kept = sym ran
-found_or_all p (t ∷ ts) reply new old b ran kept =
-    elim (p t) as (λ c. (reply_and_state (cond (not c) (Some t) (find (λ t. not (p t)) ts)) reply new old).1 ≡ b (c && all_pass p ts)) [
-      | true ↦ found_or_all p ts reply new old b ran kept
+found_or_all : (p : Refusal → Bool) (ts : List Refusal) (new old : State) (b : Bool → State) → b true ≡ new → b false ≡ old
+    → option_map_or (λ why. old) (find (λ t. not (p t)) ts) new ≡ b (all_pass p ts)
+found_or_all p [] new old b ran kept = sym ran
+found_or_all p (t ∷ ts) new old b ran kept =
+    elim (p t) as (λ c. option_map_or (λ why. old) (cond (not c) (Some t) (find (λ t. not (p t)) ts)) new ≡ b (c && all_pass p ts)) [
+      | true ↦ found_or_all p ts new old b ran kept
       | false ↦ sym kept
     ]
 
 pub next_is : (g : Geometry) (u : State) (m : Msg) → next_state g u m ≡ if_ran (runs g u m) u m
-next_is g u m = found_or_all (passes g u (kind m) (four_numbers m)) (checks (kind m)) (accepted_reply g u m) (effect u m) u (λ b. if_ran b u m) refl refl
+next_is g u m = found_or_all (passes g u (kind m) (four_numbers m)) (checks (kind m)) (effect u m) u (λ b. if_ran b u m) refl refl
 
 -- what an effect leaves as it was is as it was
 ran_same : {X : Type 0} (h : State → X) (b : Bool) (u : State) (m : Msg) → h (effect u m) ≡ h u → h (if_ran b u m) ≡ h u

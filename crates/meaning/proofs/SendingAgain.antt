@@ -3,6 +3,7 @@ use Rattle.std.proofs.Common.{arith, ◌≡◌, ◌⊎◌, ℕ, ◌+◌, ◌<◌
 use Rattle.std.specs.Prelude.{◌&&◌, ◌||◌, not, ◌==◌, nat_lt, if◌then◌else◌, cond, find, is_some}
 use Rattle.std.specs.List.{AllByRecursion}
 use Rattle.std.proofs.lemmas.Bool.{and_parts, and_cases, and_from, and_left, or_right, or_cases, eq-eqb, ltb-true, lt-ltb, true≢false}
+use Rattle.std.specs.Option.{option_map_or}
 use Rattle.affinity.specs.Geometry.{stripe_of}
 use Rattle.affinity.specs.Kind.{is_changing}
 use Rattle.affinity.specs.Path.{are_related}
@@ -15,10 +16,11 @@ use Rattle.protocol.specs.declared.messages.Msg.{Msg}
 use Rattle.protocol.specs.declared.messages.Msg.TheVariants.{MakeVol, DropVol, Create, Delete, Seal, Unseal, Write, Punch, SetLabel, Summary as AskSummary}
 use Rattle.protocol.specs.declared.replies.Refusal.{Refusal}
 use Rattle.protocol.specs.declared.replies.Refusal.TheVariants.{Space}
-use Rattle.meaning.specs.State.{State, IsState, BlockKey, VolumeKey, blocks_in_stripe, one_if, sum_below, is_volume, is_block}
+use Rattle.meaning.specs.State.{State, IsState, BlockKey, VolumeKey, blocks_in_stripe, sum_below, is_volume, is_block}
 use Rattle.meaning.specs.Refusals.{checks, is_refused, passes}
 use Rattle.protocol.specs.declared.replies.Reply.{Reply}
-use Rattle.meaning.specs.Step.{accepted_reply, effect, next_state, reply_and_state, reply_to}
+use Rattle.protocol.specs.declared.replies.Reply.TheVariants.{Refused}
+use Rattle.meaning.specs.Step.{accepted_reply, effect, next_state, reply_to}
 use Rattle.meaning.specs.Output.{state_after_line, state_after_lines}
 use Rattle.meaning.specs.ClosedPart.{IsClosedPart, are_related_lines}
 use Rattle.meaning.specs.SendingAgain.{AreAccepted, AreTries, HaveSpace, IsAccepted, Try, WritesThere, lines_done, stripe_size, with_block, with_blocks}
@@ -26,7 +28,7 @@ use Rattle.meaning.proofs.Commute.{commute}
 use Rattle.meaning.proofs.IsState.{fewer, not_cleared, two_below, was_set}
 use Rattle.meaning.proofs.Keys.{other_file, other_place, picks_block, the_block, the_volume}
 use Rattle.meaning.proofs.OutputLemmas.{state_after_lines-append}
-use Rattle.meaning.proofs.Sums.{one_if_from, sum_below-le, sum_one_more}
+use Rattle.meaning.proofs.Sums.{one_if_from, sum_below-le, sum_one_more, one_if}
 use Rattle.meaning.proofs.HealingStep.{FindsRoom, SealsMade, SameVolume, HealsVolume, HealsFile, SameFile, FileHeals, Heal, all_pass, all_passed, heals, if_ran, next_is, runs}
 
 -- ---- room
@@ -186,11 +188,11 @@ past_part g u o (line ∷ part) h =
 
 -- ---- a line that is sent again
 
-not_refused : (p : Refusal → Bool) (ts : List Refusal) (reply : Reply) (new old : State) → is_refused (reply_and_state (find (λ t. not (p t)) ts) reply new old).0 ≡ false → all_pass p ts ≡ true
-not_refused p [] reply new old e = refl
-not_refused p (t ∷ ts) reply new old e =
-    elim (p t) as (λ c. is_refused (reply_and_state (cond (not c) (Some t) (find (λ t. not (p t)) ts)) reply new old).0 ≡ false → (c && all_pass p ts) ≡ true) [
-      | true ↦ λ e. not_refused p ts reply new old e
+not_refused : (p : Refusal → Bool) (ts : List Refusal) (reply : Reply) → is_refused (option_map_or Refused (find (λ t. not (p t)) ts) reply) ≡ false → all_pass p ts ≡ true
+not_refused p [] reply e = refl
+not_refused p (t ∷ ts) reply e =
+    elim (p t) as (λ c. is_refused (option_map_or Refused (cond (not c) (Some t) (find (λ t. not (p t)) ts)) reply) ≡ false → (c && all_pass p ts) ≡ true) [
+      | true ↦ λ e. not_refused p ts reply e
       | false ↦ λ e. absurd (true≢false e)
     ] e
 
@@ -217,7 +219,7 @@ module _ (g : Geometry) (c w z y : State) (full : (a v s : ℕ) → blocks_in_st
             (subst (λ q. Heal w q (if_ran b y m)) (sym (next_is g z m ∙ changes_nothing (runs g z m) z m e))
             (subst (λ q. Heal w z q) (sym (changes_nothing b y m e)) h))
         | true ↦ λ e.
-            let in_z : runs g z m ≡ true = not_refused (passes g z (kind m) (four_numbers m)) (checks (kind m)) (accepted_reply g z m) (effect z m) z
+            let in_z : runs g z m ≡ true = not_refused (passes g z (kind m) (four_numbers m)) (checks (kind m)) (accepted_reply g z m)
             (sym (ap (λ t. t && is_refused (reply_to g z m)) e) ∙ accepted) in
             subst (λ q. Heal q (next_state g z m) (if_ran b y m)) (sym (next_is g w m))
             (subst (λ q. Heal (if_ran (runs g w m) w m) q (if_ran b y m)) (sym (next_is g z m ∙ ap (λ t. if_ran t z m) in_z))

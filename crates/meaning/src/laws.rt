@@ -1,7 +1,7 @@
 //! What holds of every server, whatever state it is in: laws of the definitions alone. No function
 //! here does anything; its contract is the law.
 
-ghost use Rattle.std.specs.Prelude.{◌≡◌, ℕ, ◌≤◌, true, false, List, ◌++◌, Some, IsPermutation};
+ghost use Rattle.std.specs.Prelude.{◌≡◌, ℕ, ◌≤◌, ◌*◌, true, false, List, ◌++◌, Some, IsPermutation};
 ghost use Rattle.std.specs.List.{AllByRecursion};
 ghost use Rattle.affinity.specs.declared.geometry.Geometry.{Geometry};
 ghost use Rattle.affinity.specs.Path.{are_related};
@@ -17,7 +17,7 @@ ghost use Rattle.meaning.specs.Subtrees.{AgreeOn, subtree, standing};
 ghost use Rattle.meaning.specs.TicketOrder.{by_ticket, KeepsOrder, SameByTicket, AreInOrder};
 ghost use Rattle.meaning.specs.Commute.{outside, RunAlike, Commute};
 ghost use Rattle.meaning.specs.Output.{state_after_lines};
-ghost use Rattle.meaning.specs.SendingAgain.{AreAccepted, HaveSpace, WritesThere, stripe_size, Try, AreTries, lines_done};
+ghost use Rattle.meaning.specs.SendingAgain.{AreAccepted, HaveSpace, WritesThere, rounds, stripe_size, Try, AreTries, lines_done};
 
 /// The empty state is a possible one (`IsState`), and each message leads from a possible state to a possible one: all
 /// numbers stay in range, blocks and labels keep their lengths, and no stripe gets more blocks than its quota.
@@ -70,6 +70,8 @@ pub fn sending_again_heals()
         → AreAccepted g x ls → HaveSpace g x ls → AreTries g tries ls left
         → state_after_lines g x (lines_done tries ++ left) ≡ state_after_lines g x ls }
     ensures large_quota { (g : Geometry) (x : State) (ls : List (List ℕ)) → ((s : ℕ) → stripe_size g s ≤ g.quota) → HaveSpace g x ls }
+    // So a quota of that many blocks is large enough for whatever is written.
+    ensures stripe_size { (g : Geometry) (s : ℕ) → stripe_size g s ≤ g.files * (g.width * rounds g) }
     ensures nothing_new { (g : Geometry) (x : State) (ls : List (List ℕ)) → IsState g x
         → AllByRecursion (λ line. WritesThere x (message_of line)) ls → HaveSpace g x ls }
 {}
