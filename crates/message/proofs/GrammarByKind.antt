@@ -1,12 +1,12 @@
 -- The grammar of each kind of message, word by word: the first word as a number, then the rest by the rule for one number less.
-use Rattle.std.proofs.Common.{arith, ◌≡◌, ℕ, List, [], ◌∷◌, Option, Some, None, refl, ap, sym, ◌∙◌}
+use Rattle.std.proofs.Common.{arith, ◌≡◌, ℕ, ◌+◌, ◌-◌, ◌<◌, List, [], ◌∷◌, length, get_or, take, drop, Option, Some, None, refl, ap, sym, ◌∙◌}
 use Rattle.std.proofs.lemmas.Grind.{common_steps}
 use Rattle.std.specs.Option.{option_map}
 use Rattle.affinity.specs.declared.kinds.Kind.TheVariants.{Summary}
 use Rattle.protocol.specs.declared.messages.Block.{Block}
 use Rattle.protocol.specs.declared.messages.Msg.{Msg}
 use Rattle.protocol.specs.Words.{words, number_in_word, block_in_word, label_in_word}
-use Rattle.message.proofs.Words.{only, only-words, words_some}
+use Rattle.message.proofs.Words.{only, only-words, words_some, words_split}
 use Rattle.message.proofs.Numbers.{number_no_space}
 use Rattle.message.proofs.Blocks.{block_no_space, label_no_space}
 use Rattle.protocol.specs.Grammar.{◌>>=◌, first_number, of_volume, of_file, of_block, of_data, of_label, of_kind}
@@ -140,6 +140,11 @@ first_number_some ws w bs n e h =
       | [] ↦ λ none. absurd (words_some bs none)
       | v ∷ vs ↦ λ some. rw h refl
     ] refl
+
+-- a line that begins with a word that encodes a number, and a space
+pub number_in_front : (line : List ℕ) (i n : ℕ) → i < length line → number_in_word (take i line) ≡ Some n → get_or line i 0 ≡ 32
+    → first_number (words line) ≡ Some (n, words (take (length line - (i + 1)) (drop (i + 1) line)))
+number_in_front line i n lt h space = first_number_some (words line) (take i line) (take (length line - (i + 1)) (drop (i + 1) line)) n (words_split line i lt (number_no_space _ n h) space) h
 
 pub only-number : (line : List ℕ) → only number_in_word (words line) ≡ number_in_word line
 only-number line = only-words number_in_word line (number_no_space line)

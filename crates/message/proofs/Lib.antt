@@ -13,7 +13,7 @@ mod FilesText
 mod WrittenParts
 pub mod BufferedOutput
 pub mod AppendsBeginning
-mod Spells
+pub mod Spells
 pub mod RecordLemmas
 mod ReaderLemmas
 mod Slices

@@ -136,7 +136,20 @@ value_more w i v lt d e = grind (arith, common_steps, digits_value_more, value_o
 pub too_large : (w : List ℕ) (i v : ℕ) → v ≡ digits_value 10 (take (i + 1) w) → 2 ^ 16 ≤ v → number_in_word w ≡ None
 too_large w i v e h = no_number w (λ n. let less = digits_value-take-le 10 w (i + 1) (omega arith) in let fits = n.fits in absurd (omega arith))
 
--- ---- a word of one byte
+-- ---- one digit, or two, in front of a line
 
-pub one_digit : (c : ℕ) → is_ascii_digit c ≡ true → number_in_word (c ∷ []) ≡ Some (c - 48)
+one_digit : (c : ℕ) → is_ascii_digit c ≡ true → number_in_word (c ∷ []) ≡ Some (c - 48)
 one_digit c digit = grind (arith, common_steps, digit_in_range, value_more, number_from, and_from)
+
+pub digit_in_front : (line : List ℕ) → 0 < length line → is_ascii_digit (get_or line 0 0) ≡ true → number_in_word (take 1 line) ≡ Some (get_or line 0 0 - 48)
+digit_in_front [] lt digit = absurd (omega (arith, lt))
+digit_in_front (c ∷ line) lt digit = one_digit c digit
+
+two_digits : (c d : ℕ) → is_ascii_digit c ≡ true → is_ascii_digit d ≡ true → (c ≡ 48 → ⊥) → number_in_word (c ∷ d ∷ []) ≡ Some (10 * (c - 48) + (d - 48))
+two_digits c d first second plain = grind (arith, common_steps, digit_in_range, value_more, number_from, and_from)
+
+pub two_in_front : (line : List ℕ) → 1 < length line → is_ascii_digit (get_or line 0 0) ≡ true → is_ascii_digit (get_or line 1 0) ≡ true → (get_or line 0 0 ≡ 48 → ⊥)
+    → number_in_word (take 2 line) ≡ Some (10 * (get_or line 0 0 - 48) + (get_or line 1 0 - 48))
+two_in_front [] lt first second plain = absurd (omega (arith, lt))
+two_in_front (c ∷ []) lt first second plain = absurd (omega (arith, lt))
+two_in_front (c ∷ d ∷ line) lt first second plain = two_digits c d first second plain

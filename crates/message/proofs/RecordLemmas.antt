@@ -13,7 +13,7 @@ use Rattle.protocol.specs.declared.sizes.TheConstants.{BLOCK_SIZE, LABEL_SIZE, R
 use Rattle.protocol.specs.declared.messages.Block.{Block}
 use Rattle.protocol.specs.declared.messages.Msg.{Msg}
 use Rattle.protocol.specs.declared.messages.Msg.TheVariants.{Create, Delete, Write, Punch, Read, Summary, SetLabel}
-use Rattle.protocol.specs.Messages.{kind, numbers, filled, four_numbers, is_in_range, AreSizedBytes, IsMessage}
+use Rattle.protocol.specs.Messages.{kind, numbers, four_numbers, is_in_range, AreSizedBytes, IsMessage}
 use Rattle.message.specs.Records.{FitsRecord, assembled, data_of, message_in_fields, record_head, kind_number, kind_numbered, record_of}
 use borrow.Rule.Slice.PartMut.{put_mid, post_of}
 use Rattle.affinity.proofs.Elements.{all_bytes}
@@ -71,6 +71,10 @@ fields_decoded : (k : Kind) {n : List ℕ} (bytes : List ℕ) {a v f b : ℕ} �
     ≡ Some (assembled k a v f b bytes)
 unfolding message_in_fields
 fields_decoded k bytes {a} {v} {f} {b} h e = grind (arith, common_steps, low_byte, kind_again)
+
+-- four numbers: those of the list, and zeros after them
+abbrev pub filled : List ℕ → List ℕ
+filled ns = take 4 (ns ++ replicate 4 0)
 
 four : (ns : List ℕ) → filled ns ≡ get_or (filled ns) 0 0 ∷ get_or (filled ns) 1 0 ∷ get_or (filled ns) 2 0 ∷ get_or (filled ns) 3 0 ∷ []
 four (a ∷ v ∷ f ∷ b ∷ more) = refl

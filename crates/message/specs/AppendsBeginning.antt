@@ -1,4 +1,4 @@
--- Statement for clients: What a writer holds where not all was written that was to be.
+-- Statement for operators: What a writer holds where not all was written that was to be.
 use Rattle.std.specs.Prelude.{◌≡◌, ℕ, List, ◌++◌, Option}
 use Rattle.std.specs.Io.KnownBytes.{Appends}
 

@@ -13,9 +13,20 @@ use Rattle.message.specs.Records.{assembled}
 
 -- whether messages of a kind have data: a block or a label
 abbrev pub has_data : Kind → Bool
+has_data kinds.MakeVol = false
+has_data kinds.DropVol = false
+has_data kinds.Create = false
+has_data kinds.Delete = false
+has_data kinds.Seal = false
+has_data kinds.Unseal = false
 has_data kinds.Write = true
+has_data kinds.Punch = false
+has_data kinds.Read = false
+has_data kinds.List = false
+has_data kinds.Usage = false
+has_data kinds.Summary = false
 has_data kinds.SetLabel = true
-has_data _ = false
+has_data kinds.Label = false
 
 -- the message of a kind and four numbers, where it has no data
 abbrev pub message_without_data : Kind → List ℕ → Msg

@@ -35,9 +35,20 @@ record_head m =
 
 -- the data: the block of a `write`, the label of a `setlabel` and zeros after it, and zeros for all others
 unfoldable pub data_of : Msg → List ℕ
+data_of (MakeVol a v) = replicate BLOCK_SIZE 0
+data_of (DropVol a v) = replicate BLOCK_SIZE 0
+data_of (Create a v f) = replicate BLOCK_SIZE 0
+data_of (Delete a v f) = replicate BLOCK_SIZE 0
+data_of (Seal a v) = replicate BLOCK_SIZE 0
+data_of (Unseal a v) = replicate BLOCK_SIZE 0
 data_of (Write a v f b content) = content.0
+data_of (Punch a v f b) = replicate BLOCK_SIZE 0
+data_of (Read a v f b) = replicate BLOCK_SIZE 0
+data_of (ListFiles a v) = replicate BLOCK_SIZE 0
+data_of (Usage a v) = replicate BLOCK_SIZE 0
+data_of Summary = replicate BLOCK_SIZE 0
 data_of (SetLabel a v bytes) = bytes ++ replicate (BLOCK_SIZE - LABEL_SIZE) 0
-data_of _ = replicate BLOCK_SIZE 0
+data_of (Label a v) = replicate BLOCK_SIZE 0
 
 -- the record of a message: its head, then data of the size of a block
 abbrev pub record_of : Msg → List ℕ

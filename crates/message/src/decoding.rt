@@ -17,14 +17,12 @@ fn digit_value(digit: u8) -> u8
     ensures { result ≡ unwrap_or (hex_digit_value digit) NO_DIGIT }
 {
     let decimal = digit.wrapping_sub(b'0');
-    let lower = digit.wrapping_sub(b'a');
-    let upper = digit.wrapping_sub(b'A');
+    // Bit 5 alone tells the two cases of a letter apart: without it, they are compared at once.
+    let letter = (digit / 64 * 64 + digit % 32).wrapping_sub(b'A');
     if decimal < 10 {
         decimal
-    } else if lower < 6 {
-        lower + 10
-    } else if upper < 6 {
-        upper + 10
+    } else if letter < 6 {
+        letter + 10
     } else {
         NO_DIGIT
     }

@@ -65,7 +65,9 @@ impl Head<'_> {
     }
 }
 
-/// The head of the message that a line spells, the line given without its newline.
+/// The head of the message that a line spells, the line given without its newline. It and what it calls are inlined: a head that is handed
+/// through memory costs a tenth of what a short line takes.
+#[inline(always)]
 pub fn head_of_line(line: &[u8]) -> Head<'_>
     ensures { IsHead result (message_of line.now) }
 {
@@ -95,6 +97,7 @@ fn head_of_word(kind: Kind) -> Head<'static>
 }
 
 /// The head of the message of a kind and what comes after its keyword and a space.
+#[inline(always)]
 fn head_of_kind(kind: Kind, line: &[u8]) -> Option<Head<'_>>
     ensures { IsHead (unwrap_or result NoMessage) (of_kind kind (words line.now)) }
 {
@@ -115,6 +118,7 @@ fn head_of_kind(kind: Kind, line: &[u8]) -> Option<Head<'_>>
 }
 
 /// The head of a `write`.
+#[inline(always)]
 fn head_of_write(line: &[u8]) -> Option<Head<'_>>
     ensures { IsHead (unwrap_or result NoMessage) (of_data write (words line.now)) }
 {
@@ -126,6 +130,7 @@ fn head_of_write(line: &[u8]) -> Option<Head<'_>>
 }
 
 /// The head of a `setlabel`.
+#[inline(always)]
 fn head_of_label(line: &[u8]) -> Option<Head<'_>>
     ensures { IsHead (unwrap_or result NoMessage) (of_label set_label (words line.now)) }
 {
@@ -142,6 +147,7 @@ pub fn decode_label(digits: &[u8]) -> Option<[u8; LABEL_SIZE]>
 }
 
 /// Decodes digits into a buffer of one block, and fills the rest with zeros.
+#[inline(always)]
 fn decode_bytes(digits: &[u8], out: &mut [u8; BLOCK_SIZE]) -> Option<()>
     ensures { MatchOption result (bytes_in_word BLOCK_SIZE digits.now ≡ None)
         (λ _. bytes_in_word BLOCK_SIZE digits.now ≡ Some out.new) }
@@ -156,6 +162,7 @@ fn decode_bytes(digits: &[u8], out: &mut [u8; BLOCK_SIZE]) -> Option<()>
 }
 
 /// Decodes digits into a block, in place, without a copy. Where they encode none, `content` is unspecified afterwards.
+#[inline(always)]
 pub fn decode_block(digits: &[u8], content: &mut Block) -> Option<()>
     ensures { MatchOption result (block_in_word digits.now ≡ None)
         (λ _. block_in_word digits.now ≡ Some content.new) }

@@ -7,7 +7,6 @@ ghost use Rattle.std.specs.Str.Parse.{digits_value};
 ghost use Rattle.protocol.specs.declared.messages.Msg.{Msg};
 ghost use Rattle.protocol.specs.Words.{words, number_in_word, bytes_in_word};
 ghost use Rattle.protocol.specs.Grammar.{first_number, of_volume, of_file, of_block, kind_named};
-ghost use Rattle.protocol.specs.Messages.{filled};
 ghost use Rattle.message.specs.Numbers.{AreInFront, HasTooMuchInFront};
 
 use crate::LONGEST_LINE;
@@ -93,7 +92,7 @@ fn is_keyword<const N: usize>(word: &[u8], keyword: &[u8; N]) -> bool
 pub(crate) fn volume_numbers(line: &[u8]) -> Option<[u16; 4]>
     ensures value { (make : ℕ → ℕ → Msg) → of_volume make (words line.now)
         ≡ option_map (λ ns. make (slice_index ns 0) (slice_index ns 1)) result }
-    ensures zeros { IfSome result (λ ns. filled (slice_index ns 0 ∷ slice_index ns 1 ∷ []) ≡ ns) }
+    ensures zeros { IfSome result (λ ns. slice_index ns 0 ∷ slice_index ns 1 ∷ 0 ∷ 0 ∷ [] ≡ ns) }
 {
     let (aggregate, behind) = number_before_space(line)?;
     Some([aggregate, number(behind)?, 0, 0])
@@ -103,7 +102,7 @@ pub(crate) fn volume_numbers(line: &[u8]) -> Option<[u16; 4]>
 pub(crate) fn file_numbers(line: &[u8]) -> Option<[u16; 4]>
     ensures value { (make : ℕ → ℕ → ℕ → Msg) → of_file make (words line.now)
         ≡ option_map (λ ns. make (slice_index ns 0) (slice_index ns 1) (slice_index ns 2)) result }
-    ensures zeros { IfSome result (λ ns. filled (slice_index ns 0 ∷ slice_index ns 1 ∷ slice_index ns 2 ∷ []) ≡ ns) }
+    ensures zeros { IfSome result (λ ns. slice_index ns 0 ∷ slice_index ns 1 ∷ slice_index ns 2 ∷ 0 ∷ [] ≡ ns) }
 {
     let (aggregate, behind) = number_before_space(line)?;
     let [volume, file, _, _] = volume_numbers(behind)?;
@@ -114,7 +113,7 @@ pub(crate) fn file_numbers(line: &[u8]) -> Option<[u16; 4]>
 pub(crate) fn block_numbers(line: &[u8]) -> Option<[u16; 4]>
     ensures value { (make : ℕ → ℕ → ℕ → ℕ → Msg) → of_block make (words line.now)
         ≡ option_map (λ ns. make (slice_index ns 0) (slice_index ns 1) (slice_index ns 2) (slice_index ns 3)) result }
-    ensures zeros { IfSome result (λ ns. filled (slice_index ns 0 ∷ slice_index ns 1 ∷ slice_index ns 2 ∷ slice_index ns 3 ∷ []) ≡ ns) }
+    ensures zeros { IfSome result (λ ns. slice_index ns 0 ∷ slice_index ns 1 ∷ slice_index ns 2 ∷ slice_index ns 3 ∷ [] ≡ ns) }
 {
     let (aggregate, behind) = number_before_space(line)?;
     let [volume, file, block, _] = file_numbers(behind)?;
@@ -132,11 +131,37 @@ fn digit_before_space(line: &[u8]) -> Option<(u16, &[u8])>
     Some((u16::from(line[0] - b'0'), &line[2..]))
 }
 
-/// The number before the first space of a line, and what comes after that space.
+/// If a line begins with a number of two digits and a space: the number, and what comes after the space. Else `None`.
+fn two_digits_before_space(line: &[u8]) -> Option<(u16, &[u8])>
+    ensures { IfSome result (λ p. first_number (words line.now) ≡ Some (p.0, words p.1.now)) }
+{
+    if line.len() < 3 || line[2] != b' ' || line[0] == b'0' {
+        return None;
+    }
+    if !line[0].is_ascii_digit() || !line[1].is_ascii_digit() {
+        return None;
+    }
+    let number = 10 * (line[0] - b'0') + (line[1] - b'0');
+    Some((u16::from(number), &line[3..]))
+}
+
+/// The number before the first space of a line, and what comes after that space. One digit is the usual case: it is looked at inline.
+#[inline(always)]
 pub(crate) fn number_before_space(line: &[u8]) -> Option<(u16, &[u8])>
     ensures { first_number (words line.now) ≡ option_map (λ p. (p.0, words p.1.now)) result }
 {
     if let Some(found) = digit_before_space(line) {
+        return Some(found);
+    }
+    longer_number_before_space(line)
+}
+
+/// The same, where the number has two digits or more.
+#[inline(never)]
+fn longer_number_before_space(line: &[u8]) -> Option<(u16, &[u8])>
+    ensures { first_number (words line.now) ≡ option_map (λ p. (p.0, words p.1.now)) result }
+{
+    if let Some(found) = two_digits_before_space(line) {
         return Some(found);
     }
     let (value, size) = digits_in_front(line)?;

@@ -2,9 +2,10 @@
 use Rattle.std.proofs.Common.{◌≡◌, ◌∙◌, ◌++◌, ◌∷◌, ◌<◌, ℕ, List, [], take, slice_index, refl, sym, ap, subst, arith}
 use Rattle.std.specs.List.{AllByRecursion}
 use Rattle.byteorder.specs.Endian.{little_bytes}
-use Rattle.protocol.specs.Messages.{kind, numbers, filled, four_numbers}
+use Rattle.protocol.specs.Messages.{kind, numbers, four_numbers}
 use Rattle.protocol.specs.declared.messages.Msg.{Msg}
 use Rattle.message.specs.Records.{kind_number, FitsRecord}
+use Rattle.message.proofs.RecordLemmas.{filled}
 use Rattle.message.proofs.records.head_of.Goals as goal
 
 first_three : (ns : List ℕ) → take 3 (filled ns) ≡ slice_index (filled ns) 0 ∷ slice_index (filled ns) 1 ∷ slice_index (filled ns) 2 ∷ []

@@ -8,7 +8,7 @@ use Rattle.protocol.specs.Words.{words}
 use Rattle.message.proofs.Words.{goes_on, words_split, words_whole}
 use Rattle.message.proofs.GrammarByKind.{first_number_none, first_number_some}
 use Rattle.message.proofs.Numbers.{no_number, digit_at, digits_no_space, not_a_space, too_large}
-use Rattle.message.proofs.parsing.number_before_space.Goals as goal
+use Rattle.message.proofs.parsing.longer_number_before_space.Goals as goal
 
 pub returns-in_err-value : goal.returns-in_err-value
 returns-in_err-value c =
