@@ -12,11 +12,11 @@ use Rattle.std.proofs.lemmas.Map.Keys.{IsDistinct-from_sorted, IsDistinct-head, 
 use Rattle.std.proofs.lemmas.Map.Made.{is_some-lookup}
 use Rattle.std.proofs.lemmas.Map.Entries.{length-keys_of}
 use Rattle.affinity.specs.declared.geometry.Geometry.{Geometry}
-use Rattle.meaning.specs.State.{VolumeKey, FileKey, BlockKey, sum_below, one_if, is_volume, is_file, is_block}
+use Rattle.meaning.specs.State.{VolumeKey, FileKey, BlockKey, sum_below, is_volume, is_file, is_block}
 use Rattle.meaning.specs.KeyOrders.{volume_order, block_order}
 use Rattle.meaning.proofs.Keys.{at_volume, at_block, the_volume, the_block, picks_volume, picks_block}
 use Rattle.plain.proofs.Walks.{total}
-use Rattle.meaning.proofs.Sums.{sum_same, sum_below-add, sum_zero, sum_pick}
+use Rattle.meaning.proofs.Sums.{sum_same, sum_below-add, sum_zero, sum_pick, one_if}
 
 -- ---- a list of keys, by a sum over all keys that are in range
 

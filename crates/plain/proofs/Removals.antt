@@ -6,7 +6,8 @@ use Rattle.std.proofs.lemmas.Bool.{true≢false}
 use Rattle.affinity.specs.declared.geometry.Geometry.{Geometry}
 use Rattle.affinity.specs.Geometry.{stripe_of}
 use Rattle.protocol.specs.declared.messages.Msg.TheVariants.{Punch}
-use Rattle.meaning.specs.State.{State, BlockKey, is_block, is_block_of, is_block_of_file, one_if, blocks_in_stripe}
+use Rattle.meaning.specs.State.{State, BlockKey, is_block, is_block_of, is_block_of_file, blocks_in_stripe}
+use Rattle.meaning.proofs.Sums.{one_if}
 use Rattle.meaning.specs.Step.{effect}
 use Rattle.plain.specs.Server.{StripeKey, is_stripe}
 use Rattle.meaning.specs.Removals.{without_blocks}

@@ -5,11 +5,11 @@ use Rattle.std.specs.BTreeMap.{is_at}
 use Rattle.std.proofs.lemmas.Bool.{eqb-true, true≢false, false_from_ne_true, and_right}
 use Rattle.affinity.specs.declared.geometry.Geometry.{Geometry}
 use Rattle.affinity.specs.Geometry.{stripe_of}
-use Rattle.meaning.specs.State.{State, BlockKey, sum_below, one_if, count_below, blocks_in_stripe, is_block}
+use Rattle.meaning.specs.State.{State, BlockKey, sum_below, count_below, blocks_in_stripe, is_block}
 use Rattle.meaning.specs.KeyOrders.{file_order}
 use Rattle.plain.specs.Server.{StripeKey, is_stripe}
 use Rattle.meaning.proofs.Keys.{at_file, the_file, the_block, itself, picks_file, other_file, other_place}
-use Rattle.meaning.proofs.Sums.{sum_same, sum_one_more, sum_zero}
+use Rattle.meaning.proofs.Sums.{sum_same, sum_one_more, sum_zero, one_if}
 
 -- states that have blocks at the same keys count alike
 pub same_counts : (g : Geometry) (x y : State) → ((k : BlockKey) → is_some (y.blocks k) ≡ is_some (x.blocks k)) → (a v s : ℕ) → blocks_in_stripe g y a v s ≡ blocks_in_stripe g x a v s

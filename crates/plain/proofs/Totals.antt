@@ -8,13 +8,13 @@ use Rattle.protocol.specs.declared.messages.Block.{Block}
 use Rattle.protocol.specs.Replies.{has_file}
 use Rattle.plain.specs.declared.server.Server.{Server}
 use Rattle.plain.specs.declared.server.Volume.{Volume}
-use Rattle.meaning.specs.State.{State, Map, VolumeKey, BlockKey, IsState, one_if, sum_below, count_below, file_count, block_count, sum_over_volumes}
+use Rattle.meaning.specs.State.{State, Map, VolumeKey, BlockKey, IsState, sum_below, count_below, file_count, block_count, sum_over_volumes}
 use Rattle.meaning.specs.Step.{file_bits}
 use Rattle.meaning.specs.KeyOrders.{volume_order, block_order}
 use Rattle.plain.specs.Server.{server_state, state_of, volume_has_file}
 use Rattle.meaning.proofs.FileBits.{few_bits}
 use Rattle.meaning.proofs.FileNumber.{number_within, below_within, count_within}
-use Rattle.meaning.proofs.Sums.{one_if-le, sum_same, sum_zero}
+use Rattle.meaning.proofs.Sums.{one_if-le, sum_same, sum_zero, one_if}
 use Rattle.meaning.proofs.Counts.{file_count-le, block_count-le, sum_over_volumes-le}
 use Rattle.plain.proofs.Walks.{total}
 use Rattle.plain.proofs.Lengths.{found_worth, volumes_length, volumes_worth, blocks_length}

@@ -6,7 +6,8 @@ use Rattle.affinity.specs.declared.geometry.Geometry.{Geometry}
 use Rattle.affinity.specs.Geometry.{stripe_of}
 use Rattle.protocol.specs.declared.messages.Block.{Block}
 use Rattle.protocol.specs.declared.messages.Msg.TheVariants.{Write}
-use Rattle.meaning.specs.State.{State, BlockKey, one_if, blocks_in_stripe}
+use Rattle.meaning.specs.State.{State, BlockKey, blocks_in_stripe}
+use Rattle.meaning.proofs.Sums.{one_if}
 use Rattle.meaning.specs.Step.{effect}
 use Rattle.plain.specs.Server.{StripeKey, is_stripe}
 use Rattle.plain.proofs.ServerCounts.{same_counts, one_more}

@@ -1,10 +1,10 @@
 //! Blocks, files and volumes are removed, with all that they have.
 
-ghost use Rattle.std.specs.Prelude.{◌≡◌, ◌+◌, ◌<◌, true, false, is_some, IfSome, IfNone};
+ghost use Rattle.std.specs.Prelude.{◌≡◌, ◌+◌, ◌<◌, true, false, is_some, IfSome, IfNone, if◌then◌else◌};
 ghost use Rattle.std.specs.BTreeMap.{btree_map_len};
 ghost use Rattle.affinity.specs.declared.geometry.Geometry.{Geometry};
 ghost use Rattle.protocol.specs.declared.messages.Msg.{Msg};
-ghost use Rattle.meaning.specs.State.{BlockKey, one_if, is_block_of, is_block_of_file};
+ghost use Rattle.meaning.specs.State.{BlockKey, is_block_of, is_block_of_file};
 ghost use Rattle.meaning.specs.Step.{effect};
 ghost use Rattle.plain.specs.Server.{StripeKey, is_stripe, server_state, noted, HasRightCounts, IsConsistent};
 ghost use Rattle.meaning.specs.Removals.{without_blocks};
@@ -18,7 +18,7 @@ impl Server {
     /// Lowers the count of a stripe's blocks by one.
     fn note_one_less(&mut self, a: u16, v: u16, s: u16)
         requires some { 0 < noted self.old (a, v, s) }
-        ensures noted { (k : StripeKey) → noted self.new k + one_if (is_stripe a v s k) ≡ noted self.old k }
+        ensures noted { (k : StripeKey) → noted self.new k + (if is_stripe a v s k then 1 else 0) ≡ noted self.old k }
         ensures state { server_state self.new ≡ server_state self.old }
         ensures blocks { self.new.blocks ≡ self.old.blocks }
     {
@@ -33,7 +33,7 @@ impl Server {
         requires sound { IsConsistent g.now self.old }
         ensures state { server_state self.new ≡ effect (server_state self.old) (Msg.Punch a v f b) }
         ensures counted { HasRightCounts g.now self.new }
-        ensures len { btree_map_len self.new.blocks + one_if (is_some ((server_state self.old).blocks (a, v, f, b)))
+        ensures len { btree_map_len self.new.blocks + (if is_some ((server_state self.old).blocks (a, v, f, b)) then 1 else 0)
             ≡ btree_map_len self.old.blocks }
     {
         if self.blocks.remove(&BlockKey { b, f, v, a }).is_some() {

@@ -4,7 +4,7 @@ ghost use Rattle.std.specs.Prelude.{◌≡◌, IfNone, IfSome, unwrap_or};
 ghost use Rattle.protocol.specs.declared.replies.Reply.TheVariants.{Block as shows, Hole, Label as shows_label};
 ghost use Rattle.affinity.specs.declared.kinds.Kind.TheVariants as kinds;
 ghost use Rattle.message.specs.Heads.{message_without_data};
-ghost use Rattle.meaning.specs.Step.{accepted_reply, no_label, step};
+ghost use Rattle.meaning.specs.Step.{accepted_reply, next_state, no_label, reply_to};
 ghost use Rattle.plain.specs.Server.{server_state, IsConsistent};
 
 use super::Server;
@@ -28,7 +28,8 @@ impl Server {
     pub(crate) fn block_at(&self, g: &Geometry, numbers: [u16; 4]) -> Option<&Block>
         requires sound { IsConsistent g.now self.now }
         ensures shown { IfSome result (λ content.
-            step g.now (server_state self.now) (message_without_data kinds.Read numbers) ≡ (shows content.now, server_state self.now)) }
+            (reply_to g.now (server_state self.now) (message_without_data kinds.Read numbers) ≡ shows content.now)
+            × (next_state g.now (server_state self.now) (message_without_data kinds.Read numbers) ≡ server_state self.now)) }
         ensures hole { IfNone result (accepted_reply g.now (server_state self.now) (message_without_data kinds.Read numbers) ≡ Hole) }
     {
         let [a, v, f, b] = numbers;

@@ -8,12 +8,12 @@ use Rattle.protocol.specs.declared.messages.Block.{Block}
 use Rattle.protocol.specs.declared.messages.Msg.TheVariants.{Read}
 use Rattle.protocol.specs.declared.replies.Reply.TheVariants.{Block as shows}
 use Rattle.meaning.specs.State.{State, IsState}
-use Rattle.meaning.specs.Step.{step}
+use Rattle.meaning.specs.Step.{reply_to, next_state}
 use Rattle.meaning.proofs.ReadStep.{read_told}
 use Rattle.plain.proofs.server.Server.block_at.Goals as goal
 
 looked_up : {g : Geometry} {x : State} → IsState g x → (a v f b : ℕ) (r : Option (Bor Block)) → option_copied r ≡ x.blocks (a, v, f, b)
-    → IfSome r (λ content. step g x (Read a v f b) ≡ (shows content.now, x))
+    → IfSome r (λ content. (reply_to g x (Read a v f b) ≡ shows content.now) × (next_state g x (Read a v f b) ≡ x))
 looked_up s a v f b (Some content) h = read_told s a v f b (sym h)
 looked_up s a v f b None h = tt
 

@@ -9,7 +9,8 @@ use Rattle.std.proofs.lemmas.Bool.{le-ltb, lt-ltb}
 use Rattle.affinity.specs.declared.geometry.Geometry.{Geometry}
 use Rattle.protocol.specs.declared.messages.Block.{Block}
 use Rattle.protocol.specs.declared.replies.Refusal.TheVariants.{Space}
-use Rattle.meaning.specs.State.{State, BlockKey, blocks_in_stripe, one_if}
+use Rattle.meaning.specs.State.{State, BlockKey, blocks_in_stripe}
+use Rattle.meaning.proofs.Sums.{one_if}
 use Rattle.meaning.specs.KeyOrders.{file_order, block_order}
 use Rattle.meaning.proofs.Keys.{one_block}
 use Rattle.plain.specs.Server.{StripeKey, is_stripe, server_state, noted}

@@ -2,7 +2,8 @@
 use Rattle.std.proofs.Common.{rules, ◌≡◌, ◌+◌, true, false, sym, ◌∙◌, subst}
 use Rattle.std.specs.Prelude.{is_some}
 use Rattle.std.specs.BTreeMap as map
-use Rattle.meaning.specs.State.{one_if, blocks_in_stripe}
+use Rattle.meaning.specs.State.{blocks_in_stripe}
+use Rattle.meaning.proofs.Sums.{one_if}
 use Rattle.meaning.specs.KeyOrders.{block_order}
 use Rattle.plain.specs.Server.{StripeKey, is_stripe, server_state, noted}
 use Rattle.meaning.proofs.Keys.{no_block}

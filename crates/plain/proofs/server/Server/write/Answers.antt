@@ -2,6 +2,7 @@
 use Rattle.std.proofs.Common.{rules, ◌≡◌, Bool, true, false, cond, List, ℕ, Option, Some, None, Ok, Err, refl, ap, sym, ◌∙◌, subst, OnOk, OnErr, IfOk, [], ◌∷◌}
 use Rattle.std.specs.Prelude.{not, is_some, slice_index, if◌then◌else◌}
 use Rattle.std.specs.declared.result.Result.{Result}
+use Rattle.std.specs.Option.{option_map_or}
 use Rattle.affinity.specs.declared.geometry.Geometry.{Geometry}
 use Rattle.message.specs.Heads.{writing}
 use Rattle.affinity.specs.declared.kinds.Kind.TheVariants as kinds
@@ -10,11 +11,11 @@ use Rattle.protocol.specs.declared.messages.Block.{Block}
 use Rattle.protocol.specs.declared.messages.Msg.{Msg}
 use Rattle.protocol.specs.declared.replies.Refusal.{Refusal}
 use Rattle.protocol.specs.declared.replies.Refusal.TheVariants.{Range, Volume, Sealed, File, Space}
-use Rattle.protocol.specs.declared.replies.Reply.TheVariants.{Done}
+use Rattle.protocol.specs.declared.replies.Reply.TheVariants.{Done, Refused}
 use Rattle.protocol.specs.Messages.{IsMessage}
 use Rattle.meaning.specs.State.{State, IsState}
 use Rattle.meaning.specs.Refusals.{refusal, passes}
-use Rattle.meaning.specs.Step.{effect, reply_and_state, done_or_refused, reply_to, next_state}
+use Rattle.meaning.specs.Step.{effect, done_or_refused, reply_to, next_state}
 use Rattle.plain.specs.Server.{server_state}
 use Rattle.meaning.proofs.IsState.{step_kept}
 use Rattle.plain.proofs.server.Server.write.Goals as goal
@@ -47,14 +48,14 @@ module _ (g : Geometry) (x : State) (ns : List ℕ) (content : Block) where
 
   module _ (y : State) {E : Type 0} {now : Option Refusal} (is : refusal g x (writing ns content) ≡ now) where
     replies : (r : Result (Option Refusal) E) → IfOk r (λ why. why ≡ now) → IfOk r (λ why. reply_to g x (writing ns content) ≡ done_or_refused why)
-    replies (Ok None) h = ap (λ o. (reply_and_state o Done (effect x (writing ns content)) x).0) (is ∙ sym h)
-    replies (Ok (Some why)) h = ap (λ o. (reply_and_state o Done (effect x (writing ns content)) x).0) (is ∙ sym h)
+    replies (Ok None) h = ap (λ o. option_map_or Refused o Done) (is ∙ sym h)
+    replies (Ok (Some why)) h = ap (λ o. option_map_or Refused o Done) (is ∙ sym h)
     replies (Err e) h = tt
 
     leaves : (r : Result (Option Refusal) E) → IfOk r (λ why. why ≡ now) → IfOk r (λ why. y ≡ (if is_some why then x else effect x (writing ns content)))
         → OnOk r (y ≡ next_state g x (writing ns content))
-    leaves (Ok None) h state = state ∙ ap (λ o. (reply_and_state o Done (effect x (writing ns content)) x).1) (h ∙ sym is)
-    leaves (Ok (Some why)) h state = state ∙ ap (λ o. (reply_and_state o Done (effect x (writing ns content)) x).1) (h ∙ sym is)
+    leaves (Ok None) h state = state ∙ ap (λ o. option_map_or (λ why. x) o (effect x (writing ns content))) (h ∙ sym is)
+    leaves (Ok (Some why)) h state = state ∙ ap (λ o. option_map_or (λ why. x) o (effect x (writing ns content))) (h ∙ sym is)
     leaves (Err e) h state = tt
 
 pub returns-clause-reply : goal.returns-clause-reply
