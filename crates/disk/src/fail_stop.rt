@@ -1,12 +1,10 @@
 //! A device of which nothing more is asked once a call of it has failed.
-ghost use Rattle.std.specs.Prelude.{◌≡◌, ◌+◌, ◌<◌, ◌↔◌, true, false, length, IsErrOf};
-ghost use Rattle.disk.specs.declared.fault.DiskFault.TheVariants.{OutOfRange};
-ghost use Rattle.disk.specs.Device.{IsCallInside, IsDeviceCall, Reads, Syncs, Writes};
-ghost use Rattle.disk.specs.FailStop.{are_bytes_with, fits_with, is_shut, medium_with};
+ghost use Rattle.std.specs.Prelude.{◌≡◌, length};
+ghost use Rattle.disk.specs.declared.fail_stop.Below.TheVariants.{Open};
+ghost use Rattle.disk.specs.FailStop.{medium_below, failures_while_open, fits_either_way, are_bytes_either_way};
 
 use crate::ranges::check_range;
 use crate::{Disk, DiskFault};
-use std::mem;
 use std::snapshot::Snapshot;
 
 /// The calls that were refused since one failed, the last one first. It is for contracts alone.
@@ -19,122 +17,100 @@ pub(crate) enum Refusals {
     Write(u64, usize, Snapshot<Refusals>),
 }
 
+/// The device below until a call of it fails. Then it is dropped, and only contracts know how it was.
 #[derive(Drop)]
-pub(crate) enum Passing {
-    Open,
-    Shut(Snapshot<Refusals>),
+pub(crate) enum Below<D: Disk + Drop> {
+    Open(D),
+    Shut(Snapshot<D>, Refusals),
 }
 
-/// A device that hands each call on to another one, until one of these fails. Each later call fails, too, and isn't handed on.
+/// A device that hands each call on to another one, until one of these fails. Then it drops that device, and each later call fails.
 #[derive(Drop)]
 pub struct FailStop<D: Disk + Drop> {
-    pub(crate) disk: D,
-    passing: Passing,
+    len: u64,
+    below: Below<D>,
+    // The device below as it was handed in.
+    first: Snapshot<D>,
+    ghost len_is: { length (medium_below D.medium below).now ≡ len },
+    // As long as there is a device below, no call of it has failed.
+    ghost no_failure: { failures_while_open D.medium first.value below ≡ (D.medium first.value).faults },
 }
 
 impl<D: Disk + Drop> FailStop<D> {
     /// The device over this one, of which no call has failed yet.
     pub fn new(disk: D) -> FailStop<D>
-        ensures { (result.disk ≡ disk) × (is_shut result.passing ≡ false) }
+        ensures { result.below ≡ Open disk }
     {
         FailStop {
-            disk,
-            passing: Passing::Open,
+            len: disk.len(),
+            first: Snapshot::of(&disk),
+            below: Below::Open(disk),
         }
     }
 }
 
 impl<D: Disk + Drop> Disk for FailStop<D> {
-    ghost medium = { λ d. medium_with d.passing (D.medium d.disk) };
+    ghost medium = { λ d. medium_below D.medium d.below };
 
     ghost keeps = { D.keeps };
 
     fn len(&self) -> u64 {
-        self.disk.len()
+        self.len
     }
 
-    fn read_at(&mut self, at: u64, out: &mut [u8]) -> Result<(), DiskFault>
-        ensures outside { IsErrOf result OutOfRange
-            ↔ length (medium_with self.old.passing (D.medium self.old.disk)).now < at + length out.old }
-        ensures untouched { IsErrOf result OutOfRange → self.new ≡ self.old }
-        ensures unread { IsErrOf result OutOfRange → out.new ≡ out.old }
-        ensures call { IsDeviceCall result
-            (medium_with self.old.passing (D.medium self.old.disk)) (medium_with self.new.passing (D.medium self.new.disk)) }
-        ensures reads { D.keeps → Reads at out.new result
-            (medium_with self.old.passing (D.medium self.old.disk)) (medium_with self.new.passing (D.medium self.new.disk)) }
-        ensures stays { is_shut self.old.passing ≡ true → self.new.disk ≡ self.old.disk }
-    {
-        check_range(self.len(), at, out.len())?;
-        match mem::replace(&mut self.passing, Passing::Open) {
-            Passing::Open => {
-                let answer = self.disk.read_at(at, out);
+    fn read_at(&mut self, at: u64, out: &mut [u8]) -> Result<(), DiskFault> {
+        check_range(self.len, at, out.len())?;
+        match &mut self.below {
+            Below::Open(disk) => {
+                let answer = disk.read_at(at, out);
                 if answer.is_err() {
-                    self.passing = Passing::Shut(Snapshot::of(&Refusals::Nothing));
+                    self.below = Below::Shut(Snapshot::of(disk), Refusals::Nothing);
                 }
                 answer
             }
-            Passing::Shut(before) => {
-                self.passing = Passing::Shut(Snapshot::of(&Refusals::Other(before)));
+            Below::Shut(_, refused) => {
+                *refused = Refusals::Other(Snapshot::of(refused));
                 Err(DiskFault::Device)
             }
         }
     }
 
-    fn write_at(&mut self, at: u64, bytes: &[u8]) -> Result<(), DiskFault>
-        ensures outside { IsErrOf result OutOfRange
-            ↔ length (medium_with self.old.passing (D.medium self.old.disk)).now < at + length bytes.now }
-        ensures untouched { IsErrOf result OutOfRange → self.new ≡ self.old }
-        ensures call { IsDeviceCall result
-            (medium_with self.old.passing (D.medium self.old.disk)) (medium_with self.new.passing (D.medium self.new.disk)) }
-        ensures writes { D.keeps → Writes at bytes.now result
-            (medium_with self.old.passing (D.medium self.old.disk)) (medium_with self.new.passing (D.medium self.new.disk)) }
-        ensures stays { is_shut self.old.passing ≡ true → self.new.disk ≡ self.old.disk }
-    {
-        check_range(self.len(), at, bytes.len())?;
-        match mem::replace(&mut self.passing, Passing::Open) {
-            Passing::Open => {
-                let answer = self.disk.write_at(at, bytes);
+    fn write_at(&mut self, at: u64, bytes: &[u8]) -> Result<(), DiskFault> {
+        check_range(self.len, at, bytes.len())?;
+        match &mut self.below {
+            Below::Open(disk) => {
+                let answer = disk.write_at(at, bytes);
                 if answer.is_err() {
-                    self.passing = Passing::Shut(Snapshot::of(&Refusals::Nothing));
+                    self.below = Below::Shut(Snapshot::of(disk), Refusals::Nothing);
                 }
                 answer
             }
-            Passing::Shut(before) => {
-                self.passing = Passing::Shut(Snapshot::of(&Refusals::Write(
-                    at,
-                    bytes.len(),
-                    before,
-                )));
+            Below::Shut(_, refused) => {
+                *refused = Refusals::Write(at, bytes.len(), Snapshot::of(refused));
                 Err(DiskFault::Device)
             }
         }
     }
 
-    fn sync(&mut self) -> Result<(), DiskFault>
-        ensures call { IsCallInside result
-            (medium_with self.old.passing (D.medium self.old.disk)) (medium_with self.new.passing (D.medium self.new.disk)) }
-        ensures syncs { D.keeps → Syncs result
-            (medium_with self.old.passing (D.medium self.old.disk)) (medium_with self.new.passing (D.medium self.new.disk)) }
-        ensures stays { is_shut self.old.passing ≡ true → self.new.disk ≡ self.old.disk }
-    {
-        match mem::replace(&mut self.passing, Passing::Open) {
-            Passing::Open => {
-                let answer = self.disk.sync();
+    fn sync(&mut self) -> Result<(), DiskFault> {
+        match &mut self.below {
+            Below::Open(disk) => {
+                let answer = disk.sync();
                 if answer.is_err() {
-                    self.passing = Passing::Shut(Snapshot::of(&Refusals::Nothing));
+                    self.below = Below::Shut(Snapshot::of(disk), Refusals::Nothing);
                 }
                 answer
             }
-            Passing::Shut(before) => {
-                self.passing = Passing::Shut(Snapshot::of(&Refusals::Other(before)));
+            Below::Shut(_, refused) => {
+                *refused = Refusals::Other(Snapshot::of(refused));
                 Err(DiskFault::Device)
             }
         }
     }
 
     // The other device's length is a u64.
-    ghost fits = { λ d. fits_with d.passing (D.medium d.disk) (D.fits d.disk) };
+    ghost fits = { λ d. fits_either_way D.medium d.below D.fits };
 
     // Each of its bytes is below 256.
-    ghost bytes = { λ d. are_bytes_with d.passing (D.medium d.disk) (D.bytes d.disk) };
+    ghost bytes = { λ d. are_bytes_either_way D.medium d.below D.bytes };
 }

@@ -14,7 +14,7 @@ use crate::unsynced_span::Span;
 use crate::{Disk, DiskFault, Torn};
 use std::alloc::{AllocError, Global};
 
-/// A device in memory, that can fail and crash on purpose. Only `new`, `of_bytes` and `crashed` take memory.
+/// A device in memory, that can fail and crash on purpose. Only `new` and `of_bytes` take memory.
 #[derive(Drop)]
 pub struct MemDisk {
     bytes: Vec<u8>,
@@ -38,7 +38,7 @@ pub struct MemDisk {
 }
 
 impl MemDisk {
-    ghost use Rattle.disk.specs.Memory.{memory_of, medium_of, made, after_crash, crashed};
+    ghost use Rattle.disk.specs.Memory.{memory_of, medium_of, made, after_crash};
 
     /// A device of `len` zeros. `AllocError` where there is no memory.
     pub fn new(alloc: Global, len: u64) -> Result<MemDisk, AllocError>
@@ -120,25 +120,6 @@ impl MemDisk {
             call_counter: CallCounter::new(),
             ghost_device,
         }
-    }
-
-    /// A new device as a crash would leave this one now, with no injected fault, and with its count of calls at 0. This one stays as it
-    /// is. `AllocError` where there is no memory. In clause `after`, `crashed` is the bytes that such a crash leaves.
-    pub fn crashed(&self, alloc: Global, torn: &Torn) -> Result<MemDisk, AllocError>
-        requires { HasPattern torn.now }
-        ensures after { IfOk result (λ d. memory_of d ≡ made (crashed torn.now (memory_of self.now))) }
-        ensures may { IfOk result (λ d. IsCrashImage (medium_of self.now) (medium_of d).now) }
-    {
-        let mut bytes = self.bytes.to_vec(alloc)?;
-        tear(
-            torn,
-            &self.last_synced,
-            &self.last_written,
-            &self.unsynced,
-            &mut bytes,
-        );
-        let after = MemDisk::of_bytes(alloc, bytes)?;
-        Ok(after)
     }
 
     /// The reads, writes and syncs since it was made, up to the greatest `u64`. A call that answered `OutOfRange`
