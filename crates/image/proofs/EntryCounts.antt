@@ -9,8 +9,8 @@ use Rattle.affinity.proofs.Elements.{all_take, all_drop}
 use Rattle.device_map.specs.declared.layout.TheConstants.{BLOCK_ENTRY_SIZE}
 use Rattle.protocol.specs.Messages.{IsBlock}
 use Rattle.protocol.specs.declared.messages.Block.{Block}
-use Rattle.meaning.specs.State.{sum_below, count_below, one_if}
-use Rattle.meaning.proofs.Sums.{sum_below-le, sum_below-add, sum_pick}
+use Rattle.meaning.specs.State.{sum_below, count_below}
+use Rattle.meaning.proofs.Sums.{sum_below-le, sum_below-add, sum_pick, one_if}
 use Rattle.stripe.specs.Entries.{entry_in, entries_in}
 use Rattle.stripe.specs.Stripe.{BlockEntry, content_at}
 

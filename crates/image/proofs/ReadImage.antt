@@ -16,7 +16,8 @@ use Rattle.protocol.specs.Messages.{AreSizedBytes}
 use Rattle.protocol.specs.Replies.{has_file}
 use Rattle.protocol.specs.declared.messages.Block.{Block}
 use Rattle.meaning.specs.Step.{file_bits}
-use Rattle.meaning.specs.State.{State, VolumeKey, FileKey, BlockKey, IsState, one_if}
+use Rattle.meaning.specs.State.{State, VolumeKey, FileKey, BlockKey, IsState}
+use Rattle.meaning.proofs.Sums.{one_if}
 use Rattle.stripe.specs.Entries.{entry_bytes, entries_in}
 use Rattle.stripe.specs.Stripe.{BlockEntry, content_at}
 use Rattle.stripe.proofs.EntryBytes.{entries_again}
@@ -26,6 +27,7 @@ use Rattle.image.proofs.PieceIn.{volume_again, stripe_again}
 use Rattle.meaning.proofs.FileNumber.{number_small, bits_there}
 use Rattle.image.proofs.Measures.{entries_good, state_is_measured}
 use Rattle.image.proofs.JoinedEntries.{here, none_joined, one_joined, elsewhere}
+use Rattle.image.specs.declared.layout.TheConstants.{VERSION}
 
 -- ---- the blocks of a stripe
 
@@ -96,29 +98,29 @@ module _ (g : Geometry) (x : State) (a v : ℕ) where
   pub number_decoded : (version : ℕ) → slice (volume_piece version g x a v) 8 8 ≡ little_bytes 8 (if x.made (a, v) then file_bits g x a v else 0)
   number_decoded version = grind arith
 
-  label_there : (label : List ℕ) → length label ≡ LABEL_SIZE → x.made (a, v) ≡ true → x.labels (a, v) ≡ Some label → slice (volume_piece 2 g x a v) 16 LABEL_SIZE ≡ label
+  label_there : (label : List ℕ) → length label ≡ LABEL_SIZE → x.made (a, v) ≡ true → x.labels (a, v) ≡ Some label → slice (volume_piece VERSION g x a v) 16 LABEL_SIZE ≡ label
   label_there label long made has =
       ap (λ (t : Bool). slice (if t then 1 ∷ one_if (x.sealed (a, v)) ∷ [] ++ replicate 6 0 ++ little_bytes 8 (file_bits g x a v)
-      ++ label_bytes 2 (x.labels (a, v)) ++ replicate 16 0 else replicate 64 0) 16 LABEL_SIZE) made
-      ∙ ap (λ (o : Option (List ℕ)). take LABEL_SIZE (label_bytes 2 o ++ replicate 16 0)) has
+      ++ label_bytes VERSION (x.labels (a, v)) ++ replicate 16 0 else replicate 64 0) 16 LABEL_SIZE) made
+      ∙ ap (λ (o : Option (List ℕ)). take LABEL_SIZE (label_bytes VERSION o ++ replicate 16 0)) has
       ∙ take_at label (replicate 16 0) LABEL_SIZE long
 
 module _ (g : Geometry) (x : State) (is : IsState g x) where
   has : (k : VolumeKey) → x.made k ≡ true → has_volume g k ≡ true
   has k made = and_from _ _ (lt-ltb k.0 g.aggregates (is.made k made).0) (lt-ltb k.1 g.volumes (is.made k made).1)
 
-  volume_decoded : (k : VolumeKey) → has_volume g k ≡ true → piece_in g (image_of 2 g x) (volume_piece_number g k.0 k.1) ≡ volume_piece 2 g x k.0 k.1
+  volume_decoded : (k : VolumeKey) → has_volume g k ≡ true → piece_in g (image_of VERSION g x) (volume_piece_number g k.0 k.1) ≡ volume_piece VERSION g x k.0 k.1
   volume_decoded k there =
       let parts = and_parts (nat_lt k.0 g.aggregates) (nat_lt k.1 g.volumes) there in
       volume_again g k.0 k.1 (ltb-true k.0 g.aggregates parts.0) (ltb-true k.1 g.volumes parts.1) 2 x (state_is_measured g x is)
 
-  made_again : (k : VolumeKey) → (decoded_state 2 g (image_of 2 g x)).made k ≡ x.made k
+  made_again : (k : VolumeKey) → (decoded_state VERSION g (image_of VERSION g x)).made k ≡ x.made k
   made_again k = grind (arith, made_decoded g x k.0 k.1 2, has k, volume_decoded)
 
-  sealed_again : (k : VolumeKey) → (decoded_state 2 g (image_of 2 g x)).sealed k ≡ x.sealed k
+  sealed_again : (k : VolumeKey) → (decoded_state VERSION g (image_of VERSION g x)).sealed k ≡ x.sealed k
   sealed_again k = grind (arith, sealed_decoded g x k.0 k.1 2, and_there, volume_decoded)
 
-  files_again : (k : FileKey) → (decoded_state 2 g (image_of 2 g x)).files k ≡ x.files k
+  files_again : (k : FileKey) → (decoded_state VERSION g (image_of VERSION g x)).files k ≡ x.files k
   files_again k =
       let n : ℕ = if x.made (k.0, k.1) then file_bits g x k.0 k.1 else 0 in
       and_there (has_volume g (k.0, k.1)) _ (x.files k)
@@ -138,7 +140,7 @@ module _ (g : Geometry) (x : State) (is : IsState g x) where
           ap (λ (m : ℕ). has_file m k.2) (eight_bytes (file_bits g x k.0 k.1) (omega (arith, small, most))) ∙ bits_there g.files (λ f. x.files (k.0, k.1, f)) within k.2
       bits false made = bits_there 0 (λ f. false) (λ f e. absurd (true≢false (sym e))) k.2 ∙ sym (false_from_ne_true (x.files k) (λ e. true≢false (sym (is.files k e).1 ∙ made)))
 
-  blocks_again : (k : BlockKey) → (decoded_state 2 g (image_of 2 g x)).blocks k ≡ x.blocks k
+  blocks_again : (k : BlockKey) → (decoded_state VERSION g (image_of VERSION g x)).blocks k ≡ x.blocks k
   blocks_again k =
       let s : ℕ = stripe_of g k.2 k.3 in
       if_there (has_volume g (k.0, k.1)) _ (x.blocks k)
@@ -152,16 +154,16 @@ module _ (g : Geometry) (x : State) (is : IsState g x) where
       ∙ entries_hold g x is k.0 k.1 k.2 k.3)
       (λ some. has (k.0, k.1) (is.files (k.0, k.1, k.2) (is.blocks k some).1).1)
 
-  labels_again : (k : VolumeKey) → (decoded_state 2 g (image_of 2 g x)).labels k ≡ x.labels k
+  labels_again : (k : VolumeKey) → (decoded_state VERSION g (image_of VERSION g x)).labels k ≡ x.labels k
   labels_again k =
       if_there (has_volume g k) _ (x.labels k)
       (λ there.
-      ap (label_in 2) (volume_decoded k there)
-      ∙ ap (λ (t : Bool). if t then Some (slice (volume_piece 2 g x k.0 k.1) 16 LABEL_SIZE) else None) (made_decoded g x k.0 k.1 2)
+      ap (label_in VERSION) (volume_decoded k there)
+      ∙ ap (λ (t : Bool). if t then Some (slice (volume_piece VERSION g x k.0 k.1) 16 LABEL_SIZE) else None) (made_decoded g x k.0 k.1 2)
       ∙ by (x.made k) (x.labels k) refl refl)
       (λ some. has k (sym (is.labels k) ∙ some))
     where
-      by : (t : Bool) (o : Option (List ℕ)) → x.made k ≡ t → x.labels k ≡ o → (if t then Some (slice (volume_piece 2 g x k.0 k.1) 16 LABEL_SIZE) else None) ≡ o
+      by : (t : Bool) (o : Option (List ℕ)) → x.made k ≡ t → x.labels k ≡ o → (if t then Some (slice (volume_piece VERSION g x k.0 k.1) 16 LABEL_SIZE) else None) ≡ o
       by true None made has_none = absurd (true≢false (sym (sym (ap (λ (o : Option (List ℕ)). is_some o) has_none) ∙ is.labels k ∙ made)))
       by true (Some label) made has_one =
           let long : length label ≡ LABEL_SIZE = (subst (λ (o : Option (List ℕ)). IfSome o (AreSizedBytes LABEL_SIZE)) has_one (is.label_content k)).0 in
@@ -169,11 +171,11 @@ module _ (g : Geometry) (x : State) (is : IsState g x) where
       by false None made has_none = refl
       by false (Some label) made has_one = absurd (true≢false (sym (ap (λ (o : Option (List ℕ)). is_some o) has_one) ∙ is.labels k ∙ made))
 
-  pub decoded_again : decoded_state 2 g (image_of 2 g x) ≡ x
+  pub decoded_again : decoded_state VERSION g (image_of VERSION g x) ≡ x
   decoded_again = grind (arith, made_again, sealed_again, files_again, blocks_again, labels_again)
 
-  pub read_again : image_state g (image_of 2 g x) ≡ Some x
-  read_again = grind (arith, bytes_eq-Decides (image_of 2 g x) (image_of 2 g (decoded_state 2 g (image_of 2 g x))), decoded_again)
+  pub read_again : image_state g (image_of VERSION g x) ≡ Some x
+  read_again = grind (arith, bytes_eq-Decides (image_of VERSION g x) (image_of VERSION g (decoded_state VERSION g (image_of VERSION g x))), decoded_again)
 
 -- bytes that are read as a state are its image
 pub spelling : (g : Geometry) (bytes : List ℕ) (x : State) → image_state g bytes ≡ Some x → bytes ≡ image_of (version_in bytes) g x

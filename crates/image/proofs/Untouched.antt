@@ -2,6 +2,7 @@
 use Rattle.std.proofs.Common.{◌≡◌, ◌≢◌, ℕ, zero, suc, ◌^◌, Bool, true, false, ◌&&◌, ◌||◌, not, [], ◌∷◌, ◌++◌, replicate, Option, Some, None, is_some, refl, sym, ◌∙◌, ap, true≢false}
 use Rattle.std.specs.Prelude.{◌==◌, if◌then◌else◌}
 use Rattle.std.proofs.lemmas.Bool.{eqb-true, eq-eqb, or_right}
+use Rattle.std.specs.Option.{option_map_or}
 use Rattle.affinity.specs.Geometry.{stripe_of}
 use Rattle.affinity.specs.declared.geometry.Geometry.{Geometry}
 use Rattle.byteorder.specs.Endian.{little_bytes}
@@ -9,9 +10,10 @@ use Rattle.protocol.specs.declared.messages.Block.{Block}
 use Rattle.protocol.specs.declared.messages.Msg.{Msg}
 use Rattle.protocol.specs.declared.messages.Msg.TheVariants.{MakeVol, DropVol, Create, Delete, Seal, Unseal, Write, Punch, SetLabel}
 use Rattle.protocol.specs.declared.replies.Refusal.{Refusal}
-use Rattle.meaning.specs.Step.{effect, reply_and_state, accepted_reply, next_state, no_label}
+use Rattle.meaning.specs.Step.{effect, next_state, no_label}
 use Rattle.meaning.specs.Refusals.{refusal}
-use Rattle.meaning.specs.State.{State, BlockKey, IsState, sum_below, one_if, is_volume, is_file, is_block, key}
+use Rattle.meaning.specs.State.{State, BlockKey, IsState, sum_below, is_volume, is_file, is_block, key}
+use Rattle.meaning.proofs.Sums.{one_if}
 use Rattle.meaning.specs.Facts.{Fact, OfMade, OfSealed, OfLabel, OfFile, OfBlock, value}
 use Rattle.stripe.specs.Entries.{stripe_bytes}
 use Rattle.image.specs.Pieces.{aggregate_of, volume_of, part_of, piece_of, part_piece, label_bytes, stripe_piece, entry_if}
@@ -121,6 +123,6 @@ module _ (version : ℕ) (g : Geometry) (x : State) (is : IsState g x) (m : Msg)
   pub piece_stays : piece_of version g (next_state g x m) n ≡ piece_of version g x n
   piece_stays = by (refusal g x m)
     where
-      by : (o : Option Refusal) → piece_of version g (reply_and_state o (accepted_reply g x m) (effect x m) x).1 n ≡ piece_of version g x n
+      by : (o : Option Refusal) → piece_of version g (option_map_or (λ why. x) o (effect x m)) n ≡ piece_of version g x n
       by None = effect_leaves
       by (Some why) = refl

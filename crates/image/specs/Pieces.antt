@@ -10,7 +10,7 @@ use Rattle.device_map.specs.Layout.{slice}
 use Rattle.device_map.specs.declared.layout.TheConstants.{BLOCK_ENTRY_SIZE, IMAGE_HEAD_SIZE, VOLUME_PIECE_SIZE}
 use Rattle.stripe.specs.Stripe.{BlockEntry, content_at}
 use Rattle.meaning.specs.Step.{file_bits, no_label}
-use Rattle.meaning.specs.State.{State, VolumeKey, is_volume, is_file_of, is_block_of, sum_below, one_if}
+use Rattle.meaning.specs.State.{State, VolumeKey, is_volume, is_file_of, is_block_of, sum_below}
 use Rattle.stripe.specs.Entries.{stripe_bytes, entries_in}
 use Rattle.image.specs.declared.layout.TheConstants.{VERSION}
 
@@ -81,7 +81,7 @@ label_bytes version label = if version == VERSION then unwrap_or label no_label 
 abbrev pub volume_bytes : Bool → Bool → ℕ → List ℕ → List ℕ
 volume_bytes made sealed files label =
     if made
-    then 1 ∷ one_if sealed ∷ [] ++ replicate 6 0 ++ little_bytes 8 files ++ label ++ replicate 16 0
+    then 1 ∷ (if sealed then 1 else 0) ∷ [] ++ replicate 6 0 ++ little_bytes 8 files ++ label ++ replicate 16 0
     else replicate VOLUME_PIECE_SIZE 0
 
 abbrev pub volume_piece : ℕ → Geometry → State → ℕ → ℕ → List ℕ
