@@ -19,7 +19,7 @@ use disk::{Disk, DiskFault};
 use protocol::Msg;
 
 /// How many records are written at a time, at most.
-pub(crate) const RECORDS_PER_WRITE: usize = 64;
+pub const RECORDS_PER_WRITE: usize = 64;
 
 const OPEN_GATES: [u8; RECORDS_PER_WRITE] = [1; RECORDS_PER_WRITE];
 

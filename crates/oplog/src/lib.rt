@@ -12,4 +12,5 @@ mod halves;
 pub mod laws;
 mod staging;
 
+pub use half::RECORDS_PER_WRITE;
 pub use halves::{Halves, LogFault, other};
