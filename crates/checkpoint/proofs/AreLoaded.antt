@@ -13,6 +13,7 @@ use Rattle.disk.specs.Device.{IsSynced, Medium, moments}
 use Rattle.disk.proofs.IsSynced.{synced_left}
 use Rattle.image.specs.Image.{image_of, image_state}
 use Rattle.image.proofs.ReadImage.{read_again}
+use Rattle.image.specs.declared.layout.TheConstants.{VERSION}
 use Rattle.checkpoint.specs.declared.journal.Buffers.{Buffers}
 use Rattle.checkpoint.specs.declared.opening.Parts.{Parts}
 use Rattle.checkpoint.specs.Buffers.{FitBuffers, KeepsBuffers}
@@ -46,7 +47,7 @@ alone_recovers log m x is synced = record {
 }
 
 pub unfinished_cut : (log : Log) (m : Medium) (x : State) (bytes : List ℕ) → NamedHolds log.geometry m.now log.named true x → IsSynced m
-    → IsState log.geometry x → bytes ≡ image_of 2 log.geometry x → IsCutUnfinished log bytes m
+    → IsState log.geometry x → bytes ≡ image_of VERSION log.geometry x → IsCutUnfinished log bytes m
 unfinished_cut log m x bytes is synced is_state spelled = record {
   synced = synced;
   laid = laid_out log.geometry m.now log.named x is;
@@ -143,11 +144,11 @@ pub record RecoversTo (g : Geometry) (c : List ℕ) (x : State) : Type 0 where
   pub was : recovered_state g c ≡ Some x
 
 pub made_of : {p : Parts} {log : Log} {c : List ℕ} {w2 w3 : Medium} → AreBytes w3.now → RecoversTo p.tree.geometry c (state_in p.tree)
-    → p.halves ≡ pointed_log log → p.tree.geometry ≡ log.geometry → p.buffers.snapshot.items ≡ image_of 2 p.tree.geometry (state_in p.tree)
+    → p.halves ≡ pointed_log log → p.tree.geometry ≡ log.geometry → p.buffers.snapshot.items ≡ image_of VERSION p.tree.geometry (state_in p.tree)
     → AreAllDirty log.geometry p.buffers.other_dirty.items → HoldsAlone log (state_in p.tree) w2 → IsPointed log p.buffers.snapshot.items w2 w3 → IsMadeOf c p w3
 made_of {p} {log} {w2} {w3} are before is_log geometry spelled all alone made =
     let same : p.halves.geometry ≡ log.geometry = ap (λ (l : Log). l.geometry) is_log in
-    let spelled' = spelled ∙ ap (λ (g : Geometry). image_of 2 g (state_in p.tree)) geometry in
+    let spelled' = spelled ∙ ap (λ (g : Geometry). image_of VERSION g (state_in p.tree)) geometry in
     record {
       header = before.header;
       accepted = before.accepted;

@@ -10,7 +10,8 @@ use Rattle.std.proofs.lemmas.List.{ext_get_or, get_or-set_other, get_or-set_same
 use Rattle.affinity.specs.declared.geometry.Geometry.{Geometry}
 use Rattle.affinity.proofs.Elements.{all_join}
 use Rattle.image.specs.Pieces.{aggregate_of, part_of, piece_count, pieces_of_volume, volume_of, volume_piece_number}
-use Rattle.meaning.specs.State.{one_if, key}
+use Rattle.meaning.specs.State.{key}
+use Rattle.meaning.proofs.Sums.{one_if}
 use Rattle.checkpoint.specs.DirtyPieces.{DirtiesTouched, count_dirty, AreCleanBefore}
 
 pub count_next : (t : Bool) (xs : List Bool) (i : ℕ) → i < length xs → get_or xs i false ≡ t → count_dirty (take (suc i) xs) ≡ one_if t + count_dirty (take i xs)

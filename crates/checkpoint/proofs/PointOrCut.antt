@@ -7,6 +7,7 @@ use Rattle.disk.specs.Device.{Medium}
 use Rattle.recovery.specs.Version.{named_version}
 use Rattle.disk.proofs.IsTornFrom.{itself}
 use Rattle.image.specs.Image.{image_of, image_state, version_in}
+use Rattle.image.specs.declared.layout.TheConstants.{VERSION}
 use Rattle.checkpoint.specs.View.{IsJournal, journal_view}
 use Rattle.checkpoint.specs.Journal.{JournalView, committed}
 use Rattle.checkpoint.specs.Extents.{IsUpToDate, AgreeOnClean, AreCleanExtentsOf}
@@ -33,7 +34,7 @@ pub record HoldsAlone (log : Log) (x : State) (m : Medium) : Type 0 where
 
 -- What a point leaves is sound, if the other image's clean pieces are those of the state.
 pub pointed_sound : {log : Log} {snapshot : List ℕ} {named others pending : List Bool} {w0 w1 : Medium} {y : State} → HoldsAlone log y w0
-    → snapshot ≡ image_of 2 log.geometry y
+    → snapshot ≡ image_of VERSION log.geometry y
     → AreBytes w1.now → IsPointed log snapshot w0 w1
     → IsUpToDate log.geometry (recovered_state log.geometry w0.now) others (image_in log.geometry (other (other log.named)) w1)
     → IsSoundJournal (pointed_log log) snapshot named others pending None w1
@@ -75,12 +76,12 @@ pub record Saves (log : Log) (snapshot snapshot' : List ℕ) (named others pendi
   pub sound : IsSoundJournal log snapshot named others pending None w0
   pub is : recovered_state log.geometry w0.now ≡ Some y
   pub is_state : IsState log.geometry y
-  pub spelled : snapshot' ≡ image_of 2 log.geometry y
+  pub spelled : snapshot' ≡ image_of VERSION log.geometry y
   pub are : AreBytes w0.now
 
 pub saves : {D : Type 0} {medium : D → Medium} {keeps : Type 0} {j : Inside D} {self : JournalView} {tree : TreeView} {dirty : List Bool} {old new : List ℕ}
     → IsJournal medium keeps j → journal_view medium j ≡ self → keeps → AsksToSave self tree → AreBytes (medium j.disk).now → dirty ≡ j.buffers.named_dirty.items → old ≡ j.buffers.snapshot.items
-    → (AreCleanExtentsOf tree.geometry (state_in tree) dirty old → new ≡ image_of 2 tree.geometry (state_in tree))
+    → (AreCleanExtentsOf tree.geometry (state_in tree) dirty old → new ≡ image_of VERSION tree.geometry (state_in tree))
     → Saves j.halves j.buffers.snapshot.items new j.buffers.named_dirty.items j.buffers.other_dirty.items j.buffers.pending.items (medium j.disk) (state_in tree)
 saves {medium = medium} {j = j} {tree = tree} kept view keeps asks are same same' image =
     let fine : j.halves.failed ≡ false = ap (λ (h : JournalView). h.failed) view ∙ asks.not_failed in
@@ -93,7 +94,7 @@ saves {medium = medium} {j = j} {tree = tree} kept view keeps asks are same same
       sound = subst (λ (l : Option ℕ). IsSoundJournal j.halves j.buffers.snapshot.items j.buffers.named_dirty.items j.buffers.other_dirty.items j.buffers.pending.items l (medium j.disk)) no_cut sound;
       is = is;
       is_state = subst (λ (g : Geometry). IsState g (state_in tree)) geometry asks.state;
-      spelled = image (snapshot_right no_cut sound is geometry same same') ∙ ap (λ (g : Geometry). image_of 2 g (state_in tree)) geometry;
+      spelled = image (snapshot_right no_cut sound is geometry same same') ∙ ap (λ (g : Geometry). image_of VERSION g (state_in tree)) geometry;
       are = are;
     }
 
@@ -148,7 +149,7 @@ module _ {log : Log} {snapshot snapshot' : List ℕ} {named others pending : Lis
         }
 
 -- The image of a point is named, and has version 2.
-pub pointed_version : (log : Log) (bytes : List ℕ) (w0 w1 : Medium) (y : State) → AreBytes w1.now → bytes ≡ image_of 2 log.geometry y → IsPointed log bytes w0 w1
+pub pointed_version : (log : Log) (bytes : List ℕ) (w0 w1 : Medium) (y : State) → AreBytes w1.now → bytes ≡ image_of VERSION log.geometry y → IsPointed log bytes w0 w1
     → named_version log.geometry w1.now ≡ 2
 pointed_version log bytes w0 w1 y are spelled made =
     ap (λ (n : ℕ). version_in (image_in log.geometry n w1)) (made.at.recovers w1.now (itself w1.now w1.unsynced are)).named

@@ -12,6 +12,7 @@ use Rattle.disk.proofs.CrashImagesAre.{weaker}
 use Rattle.image.specs.Image.{image_head, image_state}
 use Rattle.image.specs.Touched.{may_change}
 use Rattle.image.proofs.Untouched.{piece_stays}
+use Rattle.image.specs.declared.layout.TheConstants.{VERSION}
 use Rattle.meaning.proofs.IsState.{step_kept}
 use Rattle.std.specs.List.{AllByRecursion}
 use Rattle.checkpoint.specs.Journal.{AreCarriedOut, RecoversWithPrefix}
@@ -66,8 +67,8 @@ some_value (Some x) some = (x, refl)
 
 -- an extent that none of these messages touches stays; and what they make of a state of this geometry is one, too (`IsState`)
 one_stays : (g : Geometry) (x : State) (m : Msg) (n : ℕ) → IsState g x → may_change g m n ≡ false → extent_of g (next_state g x m) n ≡ extent_of g x n
-one_stays g x m zero is off = ap (λ (l : List ℕ). image_head 2 ++ l) (piece_stays 2 g x is m 0 off)
-one_stays g x m (suc n) is off = piece_stays 2 g x is m (suc n) off
+one_stays g x m zero is off = ap (λ (l : List ℕ). image_head VERSION ++ l) (piece_stays VERSION g x is m 0 off)
+one_stays g x m (suc n) is off = piece_stays VERSION g x is m (suc n) off
 
 all_stay : (g : Geometry) (x : State) (ms : List Msg) (n : ℕ) → IsState g x → AreCarriedOut g x ms → AllByRecursion (λ m. may_change g m n ≡ false) ms → extent_of g (state_after_all g x ms) n
     ≡ extent_of g x n

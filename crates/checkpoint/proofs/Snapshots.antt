@@ -9,6 +9,7 @@ use Rattle.image.proofs.JoinedPieces.{piece_inside, whole_image}
 use Rattle.image.proofs.PieceIn.{piece_again}
 use Rattle.image.proofs.Measures.{state_is_measured}
 use Rattle.image.proofs.ReadImage.{read_again}
+use Rattle.image.specs.declared.layout.TheConstants.{VERSION}
 use Rattle.checkpoint.specs.Extents.{AreCleanExtentsOf, extent_in, extent_of, IsUpToDate, AgreeOnClean, AreAllDirty}
 use Rattle.device_map.specs.Layout.{image_size, slice}
 use Rattle.meaning.specs.State.{State, sum_below, IsState}
@@ -19,23 +20,23 @@ piece_after g n = let next : n + 1 ≡ suc n = omega arith in ap (piece_at g) ne
 
 -- the first pieces of a state, behind the head
 abbrev pub first_pieces : Geometry → State → ℕ → List ℕ
-first_pieces g x n = image_head 2 ++ joined_below n (piece_of 2 g x)
+first_pieces g x n = image_head VERSION ++ joined_below n (piece_of VERSION g x)
 
 pub piece_put : (at k : ℕ) (bytes part : List ℕ) → at ≤ length bytes → length part ≡ k → take (at + k) (take at bytes ++ (part ++ drop k (drop at bytes))) ≡ take at bytes ++ part
 piece_put at k bytes part inside size =
     ap (take (at + k)) (sym (append_assoc (take at bytes) part (drop k (drop at bytes))))
     ∙ take_at (take at bytes ++ part) (drop k (drop at bytes)) (at + k) (length-append (take at bytes) part ∙ (λ i. length-take-le at bytes inside i + size i))
 
-pub one_more : (g : Geometry) (x : State) (n : ℕ) (bytes part : List ℕ) → bytes ≡ first_pieces g x n → part ≡ piece_of 2 g x n → bytes ++ part ≡ first_pieces g x (n + 1)
+pub one_more : (g : Geometry) (x : State) (n : ℕ) (bytes part : List ℕ) → bytes ≡ first_pieces g x n → part ≡ piece_of VERSION g x n → bytes ++ part ≡ first_pieces g x (n + 1)
 one_more g x n bytes part is is' =
     let next : n + 1 ≡ suc n = omega arith in
-    (λ i. is i ++ is' i) ∙ append_assoc (image_head 2) (joined_below n (piece_of 2 g x)) (piece_of 2 g x n) ∙ ap (first_pieces g x) (sym next)
+    (λ i. is i ++ is' i) ∙ append_assoc (image_head VERSION) (joined_below n (piece_of VERSION g x)) (piece_of VERSION g x n) ∙ ap (first_pieces g x) (sym next)
 
-pub none_behind : (g : Geometry) (x : State) (bytes : List ℕ) → take 64 bytes ≡ image_head 2 → take 64 bytes ≡ first_pieces g x 0
-none_behind g x bytes head = head ∙ sym (append-nil (image_head 2))
+pub none_behind : (g : Geometry) (x : State) (bytes : List ℕ) → take 64 bytes ≡ image_head VERSION → take 64 bytes ≡ first_pieces g x 0
+none_behind g x bytes head = head ∙ sym (append-nil (image_head VERSION))
 
 pub all_put : (g : Geometry) (x : State) → {n at : ℕ} {bytes : List ℕ} → n ≡ piece_count g → at ≡ piece_at g n → length bytes ≡ image_size g
-    → take at bytes ≡ first_pieces g x n → bytes ≡ image_of 2 g x
+    → take at bytes ≡ first_pieces g x n → bytes ≡ image_of VERSION g x
 all_put g x {at} {bytes} all place size so_far =
     sym (take_all at bytes (omega (arith, place ∙ ap (piece_at g) all ∙ whole_image g, size))) ∙ so_far ∙ ap (first_pieces g x) all
 
@@ -57,15 +58,15 @@ pub rest_more : (at k : ℕ) (now old : List ℕ) → drop at now ≡ drop at ol
 rest_more at k now old same = sym (drop-drop k at now) ∙ ap (drop k) same ∙ drop-drop k at old
 
 -- what a clean extent shows of its piece
-pub piece_there : (g : Geometry) (x : State) (n : ℕ) (bytes : List ℕ) → extent_in g bytes n ≡ extent_of g x n → slice bytes (piece_at g n) (piece_size g n) ≡ piece_of 2 g x n
-piece_there g x zero bytes is = sym (drop-take 64 (piece_size g 0) bytes) ∙ ap (drop 64) is ∙ drop_at (image_head 2) (piece_of 2 g x 0) 64 refl
+pub piece_there : (g : Geometry) (x : State) (n : ℕ) (bytes : List ℕ) → extent_in g bytes n ≡ extent_of g x n → slice bytes (piece_at g n) (piece_size g n) ≡ piece_of VERSION g x n
+piece_there g x zero bytes is = sym (drop-take 64 (piece_size g 0) bytes) ∙ ap (drop 64) is ∙ drop_at (image_head VERSION) (piece_of VERSION g x 0) 64 refl
 piece_there g x (suc n) bytes is = is
 
 -- Once the head is written, each clean extent is still that of the state.
-pub headed : (g : Geometry) (x : State) (dirty : List Bool) (old new : List ℕ) → take 64 new ≡ image_head 2 → drop 64 new ≡ drop 64 old → AreCleanExtentsOf g x dirty old
+pub headed : (g : Geometry) (x : State) (dirty : List Bool) (old new : List ℕ) → take 64 new ≡ image_head VERSION → drop 64 new ≡ drop 64 old → AreCleanExtentsOf g x dirty old
     → AreCleanExtentsOf g x dirty new
 headed g x dirty old new head rest right zero few clean =
-    take-add 64 (piece_size g 0) new ∙ (λ i. head i ++ take (piece_size g 0) (rest i)) ∙ ap (λ (l : List ℕ). image_head 2 ++ l) (piece_there g x 0 old (right 0 few clean))
+    take-add 64 (piece_size g 0) new ∙ (λ i. head i ++ take (piece_size g 0) (rest i)) ∙ ap (λ (l : List ℕ). image_head VERSION ++ l) (piece_there g x 0 old (right 0 few clean))
 headed g x dirty old new head rest right (suc n) few clean =
     ap (take (piece_size g (suc n))) (rest_more 64 (sum_below (suc n) (piece_size g)) new old rest) ∙ right (suc n) few clean
 
@@ -84,7 +85,7 @@ module _ (g : Geometry) (x : State) (dirty : List Bool) (first : List ℕ) (n at
   inside = let in_image = piece_inside g n few in omega (arith, in_image, long, size, so_far.place, so_far.size)
 
   -- a dirty piece is encoded
-  pub put_one : (k' : ℕ) (part : List ℕ) → k' ≡ k → length part ≡ k → part ≡ piece_of 2 g x n → IsSnapshotTo g x dirty first (n + 1) (at + k) (take at bytes ++ (part ++ drop k' (drop at bytes)))
+  pub put_one : (k' : ℕ) (part : List ℕ) → k' ≡ k → length part ≡ k → part ≡ piece_of VERSION g x n → IsSnapshotTo g x dirty first (n + 1) (at + k) (take at bytes ++ (part ++ drop k' (drop at bytes)))
   put_one k' part same size' is =
       subst (λ (j : ℕ). IsSnapshotTo g x dirty first (n + 1) (at + k) (take at bytes ++ (part ++ drop j (drop at bytes)))) (sym same)
       (record {
@@ -101,17 +102,17 @@ module _ (g : Geometry) (x : State) (dirty : List Bool) (first : List ℕ) (n at
     size = so_far.size;
     rest = rest_more at k bytes first so_far.rest;
     so_far = λ right.
-        let piece : take k (drop at bytes) ≡ piece_of 2 g x n = ap (take k) so_far.rest ∙ (λ i. take (size i) (drop (so_far.place i) first)) ∙ piece_there g x n first (right n few clean) in
+        let piece : take k (drop at bytes) ≡ piece_of VERSION g x n = ap (take k) so_far.rest ∙ (λ i. take (size i) (drop (so_far.place i) first)) ∙ piece_there g x n first (right n few clean) in
         take-add at k bytes ∙ one_more g x n (take at bytes) (take k (drop at bytes)) (so_far.so_far right) piece;
   }
 
-pub snapshot_is : (g : Geometry) (y : State) → IsState g y → (n : ℕ) → n < piece_count g → extent_in g (image_of 2 g y) n ≡ extent_of g y n
+pub snapshot_is : (g : Geometry) (y : State) → IsState g y → (n : ℕ) → n < piece_count g → extent_in g (image_of VERSION g y) n ≡ extent_of g y n
 snapshot_is g y is zero few =
-    take-add 64 (piece_size g 0) (image_of 2 g y)
-    ∙ (λ i. take_at (image_head 2) (joined_below (piece_count g) (piece_of 2 g y)) 64 refl i ++ piece_again 2 g y (state_is_measured g y is) 0 few i)
-snapshot_is g y is (suc n) few = piece_again 2 g y (state_is_measured g y is) (suc n) few
+    take-add 64 (piece_size g 0) (image_of VERSION g y)
+    ∙ (λ i. take_at (image_head VERSION) (joined_below (piece_count g) (piece_of VERSION g y)) 64 refl i ++ piece_again VERSION g y (state_is_measured g y is) 0 few i)
+snapshot_is g y is (suc n) few = piece_again VERSION g y (state_is_measured g y is) (suc n) few
 
-module _ (g : Geometry) (x : Option State) (y : State) (snapshot : List ℕ) (is : x ≡ Some y) (is_state : IsState g y) (spelled : snapshot ≡ image_of 2 g y) where
+module _ (g : Geometry) (x : Option State) (y : State) (snapshot : List ℕ) (is : x ≡ Some y) (is_state : IsState g y) (spelled : snapshot ≡ image_of VERSION g y) where
   pub snapshot_reads : image_state g snapshot ≡ x
   snapshot_reads = ap (image_state g) spelled ∙ read_again g y is_state ∙ sym is
 
@@ -125,6 +126,6 @@ module _ (g : Geometry) (x : Option State) (y : State) (snapshot : List ℕ) (is
 
 -- where all pieces are dirty, no piece has to be that of the state: the snapshot is made anew, and is the whole image
 pub whole_again : {g h : Geometry} {row dirty : List Bool} {new items : List ℕ} → (x : State) (old : List ℕ) → g ≡ h → AreAllDirty h row → dirty ≡ row
-    → (AreCleanExtentsOf g x dirty old → new ≡ image_of 2 g x) → items ≡ new → items ≡ image_of 2 h x
+    → (AreCleanExtentsOf g x dirty old → new ≡ image_of VERSION g x) → items ≡ new → items ≡ image_of VERSION h x
 whole_again x old same all is image put =
-    put ∙ image (rw (same, is) (λ n few clean. absurd (true≢false (sym (all n few) ∙ clean)))) ∙ ap (λ (z : Geometry). image_of 2 z x) same
+    put ∙ image (rw (same, is) (λ n few clean. absurd (true≢false (sym (all n few) ∙ clean)))) ∙ ap (λ (z : Geometry). image_of VERSION z x) same

@@ -67,28 +67,32 @@ fn first_piece(g: &Geometry, m: &Msg) -> usize
     volume_index * pieces_of_volume(g)
 }
 
-/// Makes the pieces that a message touches (may change) dirty, and no others. These are of its own volume, so no others are looked at.
-fn dirty_one(g: &Geometry, m: &Msg, dirty: &mut [bool])
-    requires size { length dirty.old ≡ piece_count g.now }
-    ensures size { length dirty.new ≡ length dirty.old }
-    ensures touched { DirtiesTouched g.now (m.now ∷ []) dirty.old dirty.new }
+/// Makes the pieces that a message touches (may change) dirty in both images, and no others. These are of its own volume, so no others
+/// are looked at.
+fn dirty_one(g: &Geometry, m: &Msg, named: &mut [bool], other: &mut [bool])
+    requires { (length named.old ≡ piece_count g.now) × (length other.old ≡ piece_count g.now) }
+    ensures sizes { (length named.new ≡ length named.old) × (length other.new ≡ length other.old) }
+    ensures named { DirtiesTouched g.now (m.now ∷ []) named.old named.new }
+    ensures other { DirtiesTouched g.now (m.now ∷ []) other.old other.new }
 {
     let first = first_piece(g, m);
-    let end = dirty.len().min(first + pieces_of_volume(g));
+    let end = named.len().min(first + pieces_of_volume(g));
     for n in first..end {
         if touched(g, m, n) {
-            dirty[n] = true;
+            named[n] = true;
+            other[n] = true;
         }
     }
 }
 
-/// Makes the pieces that these messages touch (may change) dirty, and no others.
-pub(crate) fn dirty_touched(g: &Geometry, messages: &[Msg], dirty: &mut [bool])
-    requires size { length dirty.old ≡ piece_count g.now }
-    ensures size { length dirty.new ≡ length dirty.old }
-    ensures touched { DirtiesTouched g.now messages.now dirty.old dirty.new }
+/// Makes the pieces that these messages touch (may change) dirty in both images, and no others.
+pub(crate) fn dirty_touched(g: &Geometry, messages: &[Msg], named: &mut [bool], other: &mut [bool])
+    requires { (length named.old ≡ piece_count g.now) × (length other.old ≡ piece_count g.now) }
+    ensures sizes { (length named.new ≡ length named.old) × (length other.new ≡ length other.old) }
+    ensures named { DirtiesTouched g.now messages.now named.old named.new }
+    ensures other { DirtiesTouched g.now messages.now other.old other.new }
 {
     for m in messages {
-        dirty_one(g, m, dirty);
+        dirty_one(g, m, named, other);
     }
 }

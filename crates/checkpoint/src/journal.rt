@@ -125,8 +125,12 @@ impl<D: Disk> Journal<D> {
     {
         self.halves.append(&mut self.disk, messages)?;
         let g = self.halves.geometry();
-        dirty_touched(&g, messages, &mut self.buffers.named_dirty);
-        dirty_touched(&g, messages, &mut self.buffers.other_dirty);
+        dirty_touched(
+            &g,
+            messages,
+            &mut self.buffers.named_dirty,
+            &mut self.buffers.other_dirty,
+        );
         Ok(())
     }
 

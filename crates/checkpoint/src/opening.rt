@@ -196,9 +196,9 @@ fn checkpoint_recovered<D: Disk>(parts: &mut Parts, disk: &mut D) -> Result<(), 
     requires recovers { D.keeps → recovered_state parts.old.halves.geometry (D.medium disk.old).now ≡ Some (state_in parts.old.tree) }
     ensures any_moment { D.keeps → RecoversStill parts.old.halves.geometry (D.medium disk.old) (D.medium disk.new) }
     ensures beyond { D.keeps → KeepsBeyond (layout_of parts.old.halves.geometry) (D.medium disk.old) (D.medium disk.new) }
-    ensures costs { D.keeps → Costs result 6 (D.medium disk.old) (D.medium disk.new) }
     ensures pointed { OnOk result (D.keeps →
         IsPointed parts.old.halves parts.new.buffers.snapshot.items (D.medium disk.old) (D.medium disk.new)) }
+    ensures costs { D.keeps → Costs result 6 (D.medium disk.old) (D.medium disk.new) }
     ensures snapshot { parts.new.buffers.snapshot.items ≡ image_of VERSION parts.old.tree.geometry (state_in parts.old.tree) }
     ensures log { OnOk result (parts.new.halves ≡ pointed_log parts.old.halves) }
     ensures tree { parts.new.tree ≡ parts.old.tree }

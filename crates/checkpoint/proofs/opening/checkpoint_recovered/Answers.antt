@@ -4,6 +4,7 @@ use Rattle.oplog.proofs.Results.{err_is}
 use Rattle.affinity.specs.declared.geometry.Geometry.{Geometry}
 use Rattle.image.specs.Image.{image_of, image_state}
 use Rattle.image.proofs.ReadImage.{read_again}
+use Rattle.image.specs.declared.layout.TheConstants.{VERSION}
 use Rattle.checkpoint.specs.Costs.{count_runs}
 use Rattle.checkpoint.specs.Extents.{AreAllDirty}
 use Rattle.checkpoint.proofs.Costs.{one_run}
@@ -16,13 +17,13 @@ pub returns-in_err-point_on-clause-snapshot : goal.returns-in_err-point_on-claus
 returns-in_err-point_on-clause-snapshot g c =
     whole_again (state_in c.args.parts.now.tree) _ c.requires.loaded.geometry c.requires.loaded.all c.deref.ensures.value
     c.update_snapshot.ensures.image (whole_put _ c.update_snapshot.ensures.size c.deref_mut.ensures.value c.deref_mut.ensures.len)
-    ∙ sym (ap (λ (g : Geometry). image_of 2 g (state_in c.args.parts.now.tree)) c.requires.loaded.geometry)
+    ∙ sym (ap (λ (g : Geometry). image_of VERSION g (state_in c.args.parts.now.tree)) c.requires.loaded.geometry)
 
 pub returns-clause-snapshot : goal.returns-clause-snapshot
 returns-clause-snapshot g c =
     whole_again (state_in c.args.parts.now.tree) _ c.requires.loaded.geometry c.requires.loaded.all c.deref.ensures.value
     c.update_snapshot.ensures.image (whole_put _ c.update_snapshot.ensures.size c.deref_mut.ensures.value c.deref_mut.ensures.len)
-    ∙ sym (ap (λ (g : Geometry). image_of 2 g (state_in c.args.parts.now.tree)) c.requires.loaded.geometry)
+    ∙ sym (ap (λ (g : Geometry). image_of VERSION g (state_in c.args.parts.now.tree)) c.requires.loaded.geometry)
 
 pub returns-in_err-point_on-clause-buffers : goal.returns-in_err-point_on-clause-buffers
 returns-in_err-point_on-clause-buffers g c =

@@ -7,6 +7,7 @@ use Rattle.meaning.specs.State.{IsState}
 use Rattle.image.specs.Pieces.{piece_count, piece_of}
 use Rattle.checkpoint.specs.Extents.{AreCleanExtentsOf}
 use Rattle.image.proofs.JoinedPieces.{piece_inside, whole_image}
+use Rattle.image.specs.declared.layout.TheConstants.{VERSION}
 use Rattle.checkpoint.proofs.Snapshots.{all_put, headed, none_behind, pass_one, put_one}
 use Rattle.affinity.specs.declared.geometry.Geometry.{Geometry}
 use Rattle.device_map.specs.Layout.{image_size}
@@ -51,7 +52,7 @@ loop-n-preserved c =
     elim c.if-is_dirty.branch [
       | then-is_dirty w ↦
           let over : c.loop-n.at + c.piece_size.result - c.loop-n.at ≡ c.piece_size.result = omega arith in
-          let piece : w.write_piece.new.out ≡ piece_of 2 c.geometry-g.result x c.loop-n.n = w.write_piece.ensures ∙ ap (λ (g : Geometry). piece_of 2 g x c.loop-n.n) (sym same) in
+          let piece : w.write_piece.new.out ≡ piece_of VERSION c.geometry-g.result x c.loop-n.n = w.write_piece.ensures ∙ ap (λ (g : Geometry). piece_of VERSION g x c.loop-n.n) (sym same) in
           let is_state = subst (λ (g : Geometry). IsState g x) (sym same) c.requires.whole.state in
           let long : length w.write_piece.new.out ≡ c.piece_size.result = ap length piece
           ∙ length-piece 2 c.geometry-g.result x (state_is_measured c.geometry-g.result x is_state) c.loop-n.n ∙ sym c.piece_size.ensures.size in
@@ -73,4 +74,4 @@ returns-clause-image c = λ right.
     let right' = headed c.geometry-g.result x c.args.dirty.now c.args.bytes.now c.write_head.new.bytes c.write_head.ensures.head c.write_head.ensures.rest
     (subst (λ (g : Geometry). AreCleanExtentsOf g x c.args.dirty.now c.args.bytes.now) (sym same) right) in
     all_put c.geometry-g.result x all c.loop-n.invariant.place size (c.loop-n.invariant.so_far right')
-    ∙ ap (λ (g : Geometry). image_of 2 g x) same
+    ∙ ap (λ (g : Geometry). image_of VERSION g x) same

@@ -71,11 +71,8 @@ returns-in_err-append-clause-call g c = rw (err_is c.from_residual.ensures.1, �
 
 pub dirty_touched-requires : goal.dirty_touched-requires
 dirty_touched-requires g c =
-    record { size = ap length c.deref_mut.ensures.value ∙ c.self.invariant.fit.named_dirty ∙ sym (ap piece_count (c.geometry-g.ensures ∙ ap (λ (l : Log). l.geometry) c.in_ok-append.ensures.log)) }
-
-pub dirty_touched-requires-2 : goal.dirty_touched-requires-2
-dirty_touched-requires-2 g c =
-    record { size = ap length c.deref_mut-2.ensures.value ∙ c.self.invariant.fit.other_dirty ∙ sym (ap piece_count (c.geometry-g.ensures ∙ ap (λ (l : Log). l.geometry) c.in_ok-append.ensures.log)) }
+    let pieces = sym (ap piece_count (c.geometry-g.ensures ∙ ap (λ (l : Log). l.geometry) c.in_ok-append.ensures.log)) in
+    (ap length c.deref_mut.ensures.value ∙ c.self.invariant.fit.named_dirty ∙ pieces, ap length c.deref_mut-2.ensures.value ∙ c.self.invariant.fit.other_dirty ∙ pieces)
 
 pub returns-in_err-append-clause-any_moment : goal.returns-in_err-append-clause-any_moment
 returns-in_err-append-clause-any_moment g c = moments g (goal.at.returns-in_err-append-clause-any_moment g c).After-append
@@ -95,12 +92,12 @@ returns-clause-recoverable g c = λ k.
     let same : c.geometry-g.result ≡ c.self.inside.halves.geometry = c.geometry-g.ensures ∙ ap (λ (l : Log). l.geometry) c.in_ok-append.ensures.log in
     recoverable_of
     (sound_along c.in_ok-append.ensures.log refl refl refl refl
-    (log_kept {named' = c.dirty_touched.new.dirty} {others' = c.dirty_touched-2.new.dirty} c.args.messages.now (g.met.D.Disk.bytes c.self.inside.disk)
+    (log_kept {named' = c.dirty_touched.new.named} {others' = c.dirty_touched.new.other} c.args.messages.now (g.met.D.Disk.bytes c.self.inside.disk)
     (g.met.D.Disk.bytes c.append.new.disk) (sound_of c.self.invariant c.self.view_is c.requires.not_failed k) (out g (goal.at.returns-clause-recoverable g c).After-append k)
     (c.in_ok-append.ensures.added k) (fits_of c.self.invariant c.self.view_is c.requires.not_failed)
     (record {
-      named = touched_along c.args.messages.now same c.deref_mut.ensures.value refl c.dirty_touched.ensures.touched;
-      other = touched_along c.args.messages.now same c.deref_mut-2.ensures.value refl c.dirty_touched-2.ensures.touched;
+      named = touched_along c.args.messages.now same c.deref_mut.ensures.value refl c.dirty_touched.ensures.named;
+      other = touched_along c.args.messages.now same c.deref_mut-2.ensures.value refl c.dirty_touched.ensures.other;
     })))
 
 pub returns-clause-records : goal.returns-clause-records
@@ -112,12 +109,12 @@ returns-clause-records g c = λ k.
 pub returns-clause-dirties : goal.returns-clause-dirties
 returns-clause-dirties g c =
     let same : c.geometry-g.result ≡ c.self.inside.halves.geometry = c.geometry-g.ensures ∙ ap (λ (l : Log). l.geometry) c.in_ok-append.ensures.log in
-    let first = whole_put c.dirty_touched.new.dirty c.dirty_touched.ensures.size c.deref_mut.ensures.value c.deref_mut.ensures.len in
-    let second = whole_put c.dirty_touched-2.new.dirty c.dirty_touched-2.ensures.size c.deref_mut-2.ensures.value c.deref_mut-2.ensures.len in
+    let first = whole_put c.dirty_touched.new.named c.dirty_touched.ensures.sizes.0 c.deref_mut.ensures.value c.deref_mut.ensures.len in
+    let second = whole_put c.dirty_touched.new.other c.dirty_touched.ensures.sizes.1 c.deref_mut-2.ensures.value c.deref_mut-2.ensures.len in
     rw (← c.self.view_is)
     (record {
-      named = touched_along c.args.messages.now same c.deref_mut.ensures.value first c.dirty_touched.ensures.touched;
-      other = touched_along c.args.messages.now same c.deref_mut-2.ensures.value second c.dirty_touched-2.ensures.touched;
+      named = touched_along c.args.messages.now same c.deref_mut.ensures.value first c.dirty_touched.ensures.named;
+      other = touched_along c.args.messages.now same c.deref_mut-2.ensures.value second c.dirty_touched.ensures.other;
     })
 
 pub returns-clause-none : goal.returns-clause-none
@@ -125,14 +122,14 @@ returns-clause-none g c = λ none.
     let used : c.self.inside.halves.used + length c.args.messages.now ≡ c.self.inside.halves.used = omega (arith, none) in
     let log = c.in_ok-append.ensures.log in
     let same : c.geometry-g.result ≡ c.self.inside.halves.geometry = c.geometry-g.ensures ∙ ap (λ (l : Log). l.geometry) log in
-    let first = whole_put c.dirty_touched.new.dirty c.dirty_touched.ensures.size c.deref_mut.ensures.value c.deref_mut.ensures.len in
-    let second = whole_put c.dirty_touched-2.new.dirty c.dirty_touched-2.ensures.size c.deref_mut-2.ensures.value c.deref_mut-2.ensures.len in
+    let first = whole_put c.dirty_touched.new.named c.dirty_touched.ensures.sizes.0 c.deref_mut.ensures.value c.deref_mut.ensures.len in
+    let second = whole_put c.dirty_touched.new.other c.dirty_touched.ensures.sizes.1 c.deref_mut-2.ensures.value c.deref_mut-2.ensures.len in
     let named = same_dirty c.self.inside.halves.geometry c.args.messages.now _ _ none c.self.invariant.fit.named_dirty
-    (ap length first ∙ c.dirty_touched.ensures.size ∙ ap length c.deref_mut.ensures.value)
-    (touched_along c.args.messages.now same c.deref_mut.ensures.value first c.dirty_touched.ensures.touched) in
+    (ap length first ∙ c.dirty_touched.ensures.sizes.0 ∙ ap length c.deref_mut.ensures.value)
+    (touched_along c.args.messages.now same c.deref_mut.ensures.value first c.dirty_touched.ensures.named) in
     let others = same_dirty c.self.inside.halves.geometry c.args.messages.now _ _ none c.self.invariant.fit.other_dirty
-    (ap length second ∙ c.dirty_touched-2.ensures.size ∙ ap length c.deref_mut-2.ensures.value)
-    (touched_along c.args.messages.now same c.deref_mut-2.ensures.value second c.dirty_touched-2.ensures.touched) in
+    (ap length second ∙ c.dirty_touched.ensures.sizes.1 ∙ ap length c.deref_mut-2.ensures.value)
+    (touched_along c.args.messages.now same c.deref_mut-2.ensures.value second c.dirty_touched.ensures.other) in
     (λ i. journal_view_of (log i) (named i) (others i) c.self.inside.pieces_left (g.D.Disk.medium (c.append.ensures.none none i)))
     ∙ ap (λ (n : ℕ). journal_view_of (record c.self.inside.halves { used = n }) c.self.inside.buffers.named_dirty.items c.self.inside.buffers.other_dirty.items
     c.self.inside.pieces_left (g.D.Disk.medium c.self.inside.disk)) used
@@ -143,15 +140,15 @@ invariant_of-self-2 g c =
     let log = c.in_ok-append.ensures.log in
     let geometry = ap (λ (l : Log). l.geometry) log in
     let same : c.geometry-g.result ≡ c.self.inside.halves.geometry = c.geometry-g.ensures ∙ geometry in
-    let first = whole_put c.dirty_touched.new.dirty c.dirty_touched.ensures.size c.deref_mut.ensures.value c.deref_mut.ensures.len in
-    let second = whole_put c.dirty_touched-2.new.dirty c.dirty_touched-2.ensures.size c.deref_mut-2.ensures.value c.deref_mut-2.ensures.len in
+    let first = whole_put c.dirty_touched.new.named c.dirty_touched.ensures.sizes.0 c.deref_mut.ensures.value c.deref_mut.ensures.len in
+    let second = whole_put c.dirty_touched.new.other c.dirty_touched.ensures.sizes.1 c.deref_mut-2.ensures.value c.deref_mut-2.ensures.len in
     record {
       long_enough = omega (arith, c.self.invariant.long_enough, c.append.ensures.call.len, ap (λ (l : Log). device_size (layout_of_log l)) log);
       used = omega (arith, c.self.invariant.used, ap (λ (l : Log). l.used) log, ap (λ (g : Geometry). g.half) geometry, ap (λ (h : JournalView). h.room) c.self.view_is, c.requires.room);
       fit = record {
         snapshot = c.self.invariant.fit.snapshot ∙ sym (ap image_size geometry);
-        named_dirty = ap length first ∙ c.dirty_touched.ensures.size ∙ ap length c.deref_mut.ensures.value ∙ c.self.invariant.fit.named_dirty ∙ sym (ap piece_count geometry);
-        other_dirty = ap length second ∙ c.dirty_touched-2.ensures.size ∙ ap length c.deref_mut-2.ensures.value ∙ c.self.invariant.fit.other_dirty ∙ sym (ap piece_count geometry);
+        named_dirty = ap length first ∙ c.dirty_touched.ensures.sizes.0 ∙ ap length c.deref_mut.ensures.value ∙ c.self.invariant.fit.named_dirty ∙ sym (ap piece_count geometry);
+        other_dirty = ap length second ∙ c.dirty_touched.ensures.sizes.1 ∙ ap length c.deref_mut-2.ensures.value ∙ c.self.invariant.fit.other_dirty ∙ sym (ap piece_count geometry);
         pending = c.self.invariant.fit.pending ∙ sym (ap piece_count geometry);
       };
       fits_cut_state = λ _.
@@ -163,8 +160,8 @@ invariant_of-self-2 g c =
           (log_kept c.args.messages.now (g.met.D.Disk.bytes c.self.inside.disk) (g.met.D.Disk.bytes c.append.new.disk) (sound_of c.self.invariant c.self.view_is c.requires.not_failed k)
           (out g (goal.at.invariant_of-self-2 g c).After-append k) (c.in_ok-append.ensures.added k) (fits_of c.self.invariant c.self.view_is c.requires.not_failed)
           (record {
-            named = touched_along c.args.messages.now same c.deref_mut.ensures.value first c.dirty_touched.ensures.touched;
-            other = touched_along c.args.messages.now same c.deref_mut-2.ensures.value second c.dirty_touched-2.ensures.touched;
+            named = touched_along c.args.messages.now same c.deref_mut.ensures.value first c.dirty_touched.ensures.named;
+            other = touched_along c.args.messages.now same c.deref_mut-2.ensures.value second c.dirty_touched.ensures.other;
           }));
       next_pending = c.self.invariant.next_pending;
       clean_before = c.self.invariant.clean_before;
