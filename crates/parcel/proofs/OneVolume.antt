@@ -2,6 +2,7 @@
 use Rattle.std.proofs.Common.{◌≡◌, ℕ, Bool, true, false, Option, Some, None, refl, sym, ◌∙◌}
 use Rattle.std.specs.Prelude.{◌&&◌, ◌||◌, ◌==◌, not, nat_lt, is_some, if◌then◌else◌}
 use Rattle.std.proofs.lemmas.Bool.{eq-eqb}
+use Rattle.std.specs.Option.{option_map_or}
 use Rattle.affinity.specs.declared.geometry.Geometry.{Geometry}
 use Rattle.affinity.specs.Geometry.{stripe_of}
 use Rattle.protocol.specs.declared.messages.Block.{Block}
@@ -14,7 +15,7 @@ use Rattle.protocol.specs.declared.replies.Reply.TheVariants.{Refused}
 use Rattle.protocol.specs.Messages.{is_in_range}
 use Rattle.meaning.specs.State.{State, blocks_in_stripe}
 use Rattle.meaning.specs.Refusals.{refusal}
-use Rattle.meaning.specs.Step.{effect, accepted_reply, reply_and_state}
+use Rattle.meaning.specs.Step.{effect, accepted_reply}
 use Rattle.parcel.specs.JobRun.{IsSerialStep}
 use Rattle.parcel.specs.VolumeStep.{guard, guard_open}
 use Rattle.parcel.specs.Volume.{VolumeFacts, facts_if, one_volume}
@@ -23,14 +24,14 @@ use Rattle.parcel.specs.Volume.{VolumeFacts, facts_if, one_volume}
 
 pub refused : (g : Geometry) (x : State) (m : Msg) (why : Refusal) → refusal g x m ≡ Some why → IsSerialStep g x m (Refused why) x
 refused g x m why e = record {
-  reply = λ i. (reply_and_state (sym e i) (accepted_reply g x m) (effect x m) x).0;
-  state = λ i. (reply_and_state (sym e i) (accepted_reply g x m) (effect x m) x).1;
+  reply = λ i. option_map_or Refused (sym e i) (accepted_reply g x m);
+  state = λ i. option_map_or (λ why. x) (sym e i) (effect x m);
 }
 
 pub passed : (g : Geometry) (x : State) (m : Msg) (given : Reply) (y : State) → refusal g x m ≡ None → given ≡ accepted_reply g x m → y ≡ effect x m → IsSerialStep g x m given y
 passed g x m given y e same new = record {
-  reply = same ∙ (λ i. (reply_and_state (sym e i) (accepted_reply g x m) (effect x m) x).0);
-  state = new ∙ (λ i. (reply_and_state (sym e i) (accepted_reply g x m) (effect x m) x).1);
+  reply = same ∙ (λ i. option_map_or Refused (sym e i) (accepted_reply g x m));
+  state = new ∙ (λ i. option_map_or (λ why. x) (sym e i) (effect x m));
 }
 
 -- a check that leaves it to the later ones is passed

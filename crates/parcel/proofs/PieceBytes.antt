@@ -3,7 +3,7 @@ use Rattle.std.proofs.Common.{◌≡◌, ℕ, ◌-◌, Bool, true, List, [], ◌
 use Rattle.std.proofs.lemmas.List.{take_at, drop_at, drop_all}
 use Rattle.byteorder.specs.Endian.{little_bytes}
 use Rattle.protocol.specs.declared.sizes.TheConstants.{LABEL_SIZE}
-use Rattle.meaning.specs.State.{one_if}
+use Rattle.meaning.proofs.Sums.{one_if}
 use Rattle.parcel.specs.Pieces.{spelled}
 use Rattle.parcel.specs.declared.pieces.volumes.VolumePiece.{VolumePiece}
 use mir.Val.{bool_byte}

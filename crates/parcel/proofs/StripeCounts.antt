@@ -5,8 +5,8 @@ use Rattle.std.specs.List.{AllByRecursion}
 use Rattle.std.proofs.lemmas.Bool.{eqb-true, eq-eqb, ne_eqb, and_parts, false_from_ne_true, and_right}
 use Rattle.affinity.specs.declared.geometry.Geometry.{Geometry}
 use Rattle.affinity.specs.Geometry.{stripe_of}
-use Rattle.meaning.specs.State.{State, sum_below, one_if, blocks_in_stripe}
-use Rattle.meaning.proofs.Sums.{sum_same, sum_zero, sum_one_more}
+use Rattle.meaning.specs.State.{State, sum_below, blocks_in_stripe}
+use Rattle.meaning.proofs.Sums.{sum_same, sum_zero, sum_one_more, one_if}
 use Rattle.parcel.specs.Fits.{FitsStripe}
 use Rattle.stripe.specs.Stripe.{BlockEntry, StripePart, ComesBefore, IsAscending, StripeRule, content_at}
 

@@ -10,8 +10,8 @@ use Rattle.device_map.specs.declared.layout.TheConstants.{BLOCK_ENTRY_SIZE}
 use Rattle.protocol.specs.Messages.{IsBlock, AreSizedBytes}
 use Rattle.protocol.specs.Replies.{has_file}
 use Rattle.protocol.specs.declared.messages.Block.{Block}
-use Rattle.meaning.specs.State.{State, BlockKey, IsState, is_block_of, one_if, blocks_in_stripe}
-use Rattle.meaning.proofs.Sums.{sum_same}
+use Rattle.meaning.specs.State.{State, BlockKey, IsState, is_block_of, blocks_in_stripe}
+use Rattle.meaning.proofs.Sums.{sum_same, one_if}
 use Rattle.stripe.specs.Entries.{entry_bytes, entries_in, stripe_bytes, fits_stripe, IsStripePiece}
 use Rattle.stripe.specs.Stripe.{BlockEntry, StripePart, content_at, IsAscending}
 use Rattle.stripe.proofs.EntryBytes.{IsSpellable, length-entries, entries_again}

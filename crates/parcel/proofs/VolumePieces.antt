@@ -13,7 +13,8 @@ use Rattle.protocol.specs.declared.sizes.TheConstants.{LABEL_SIZE}
 use Rattle.protocol.specs.Messages.{AreSizedBytes}
 use Rattle.protocol.specs.declared.messages.Block.{Block}
 use Rattle.meaning.specs.Step.{file_bits, no_label}
-use Rattle.meaning.specs.State.{State, VolumeKey, FileKey, BlockKey, IsState, is_volume, sum_below, one_if}
+use Rattle.meaning.specs.State.{State, VolumeKey, FileKey, BlockKey, IsState, is_volume, sum_below}
+use Rattle.meaning.proofs.Sums.{one_if}
 use Rattle.meaning.specs.Facts.{OfMade, OfSealed, OfLabel, OfFile}
 use Rattle.image.specs.Pieces.{volume_piece, label_bytes, is_made_in, is_sealed_in, has_file_in, with_volume_piece}
 use Rattle.parcel.specs.Fits.{FitsLogical, FitsVolume}
@@ -28,6 +29,7 @@ use Rattle.parcel.specs.declared.pieces.volumes.VolumePiece.{VolumePiece}
 use Rattle.meaning.proofs.FileNumber.{sum_bits, bits_back}
 use Rattle.image.proofs.DecodedBy.{label_is}
 use Rattle.image.proofs.ReadImage.{eight_bytes}
+use Rattle.image.specs.declared.layout.TheConstants.{VERSION}
 
 -- ---- what is spelled
 
@@ -42,7 +44,7 @@ files_are g x a v None fits whole has = absurd whole
 files_are g x a v (Some l) fits whole has = (λ i. sum_below g.files (λ f. if has f i then 2 ^ f else 0)) ∙ bits_back g.files l.files fits.files
 
 -- the piece of a volume of the tree is that of volume v of aggregate a in each state in which that volume has the same
-pub volume_written : (g : Geometry) (x : State) (a v : ℕ) (w : Vol) → FitsVolume g w → IsWholeVolume w → HasFacts x a v (volume_facts g w) → volume_piece 2 g x a v ≡ spelled (volume_piece_of w)
+pub volume_written : (g : Geometry) (x : State) (a v : ℕ) (w : Vol) → FitsVolume g w → IsWholeVolume w → HasFacts x a v (volume_facts g w) → volume_piece VERSION g x a v ≡ spelled (volume_piece_of w)
 volume_written g x a v w fits whole has =
     volume_spelled 2 g x (a, v) {p = volume_piece_of w} (has OfMade) (has OfSealed) (files_are g x a v w.logical fits.logical whole.0 (λ f. has (OfFile f)))
     (λ on. ap (λ (o : Option (List ℕ)). unwrap_or o no_label) (has OfLabel))

@@ -2,6 +2,7 @@
 //! them, one at a time, without allocating.
 ghost use Rattle.std.specs.Prelude.{◌≡◌, ◌<◌, ◌≤◌, ℕ, length, None};
 ghost use Rattle.image.specs.Pieces.{part_piece, piece_part_size};
+ghost use Rattle.image.specs.declared.layout.TheConstants.{FIRST_VERSION, VERSION};
 ghost use Rattle.image.specs.Pieces.{piece_count, piece_of, piece_size};
 ghost use Rattle.meaning.specs.State.{State, IsState};
 ghost use Rattle.parcel.specs.Fits.{FitsVolume};
@@ -35,14 +36,14 @@ impl fmt::Display for BadPiece {
 
 impl Error for BadPiece {}
 
-/// Writes piece `n` of the state that the tree holds into `out`, as an image of version 2 has it.
+/// Writes piece `n` of the state that the tree holds into `out`, as an image of the newest version has it.
 /// Nothing of the tree may be out. `out` has the size of the piece: that of a volume's own, or
 /// that of an entry for each block that a stripe can hold.
 pub fn write_piece(t: &Tree, n: usize, out: &mut [u8])
     requires whole { IsWholeTree t.now }
     requires piece { n < piece_count t.now.geometry }
     requires size { length out.old ≡ piece_size t.now.geometry n }
-    ensures { out.new ≡ piece_of 2 t.now.geometry (state_in t.now) n }
+    ensures { out.new ≡ piece_of VERSION t.now.geometry (state_in t.now) n }
 {
     let place = place_of_piece(&t.geometry, n);
     match volume_at(&t.root, place.aggregate, place.volume) {
@@ -59,7 +60,7 @@ fn write_part(volume: &Vol, g: &Geometry, part: usize, out: &mut [u8])
     requires part { part ≤ g.now.stripes }
     requires size { length out.old ≡ piece_part_size g.now part }
     ensures { (x : State) (a v : ℕ) → IsState g.now x
-        → HasFacts x a v (volume_facts g.now volume.now) → out.new ≡ part_piece 2 g.now x a v part }
+        → HasFacts x a v (volume_facts g.now volume.now) → out.new ≡ part_piece VERSION g.now x a v part }
 {
     if part == 0 {
         return write_volume(volume, out);
@@ -75,12 +76,12 @@ fn write_part(volume: &Vol, g: &Geometry, part: usize, out: &mut [u8])
 }
 
 /// Reads `bytes` into the tree as piece `n`, in place of what the tree has there. `BadPiece` exactly
-/// where they differ from the encoding (in version 2 of an image) of what they decode to; then it is
+/// where they differ from the encoding (in the newest version of an image) of what they decode to; then it is
 /// unspecified what the tree holds. Nothing of the tree may be out, and when a volume's own piece is read
 /// the tree must have no block of that volume.
 pub fn read_piece(t: &mut Tree, n: usize, bytes: &[u8]) -> Result<(), BadPiece>
     requires { CanReadPiece n bytes.now t.old }
-    ensures { ReadsPiece 2 n bytes.now result t.old t.new }
+    ensures { ReadsPiece VERSION n bytes.now result t.old t.new }
 {
     read_piece_of_version(t, VERSION, n, bytes)
 }
@@ -89,7 +90,7 @@ pub fn read_piece(t: &mut Tree, n: usize, bytes: &[u8]) -> Result<(), BadPiece>
 /// made gets a label of zeros.
 pub fn read_piece_1(t: &mut Tree, n: usize, bytes: &[u8]) -> Result<(), BadPiece>
     requires { CanReadPiece n bytes.now t.old }
-    ensures { ReadsPiece 1 n bytes.now result t.old t.new }
+    ensures { ReadsPiece FIRST_VERSION n bytes.now result t.old t.new }
 {
     read_piece_of_version(t, FIRST_VERSION, n, bytes)
 }

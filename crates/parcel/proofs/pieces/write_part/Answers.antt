@@ -4,6 +4,7 @@ use Rattle.std.specs.Prelude.{None, IfSome}
 use Rattle.std.proofs.lemmas.List.{get_or_read}
 use Rattle.meaning.specs.Facts.{OfBlock}
 use Rattle.image.specs.Pieces.{part_piece}
+use Rattle.image.specs.declared.layout.TheConstants.{VERSION}
 use Rattle.parcel.specs.Fits.{FitsLogical, FitsStripe}
 use Rattle.parcel.specs.Shown.{blocks_in, blocks_below}
 use Rattle.parcel.proofs.ChildRows.{fits_in_place}
@@ -33,4 +34,4 @@ returns c x a v is has =
     c.write_stripe.ensures x a v is (λ f b on.
     has (OfBlock f b) ∙ ap (λ o. blocks_below g o f b) c.in-Some.is ∙ ap (λ (s : ℕ). blocks_in (slice_index_or row s None) f b) on
     ∙ ap (λ o. blocks_in o f b) (found (goal.at.returns c).After-index ∙ c.in-Some-index.is))
-    ∙ ap (λ (k : ℕ). part_piece 2 g x a v k) later
+    ∙ ap (λ (k : ℕ). part_piece VERSION g x a v k) later

@@ -1,6 +1,7 @@
 -- The volume of the piece is in, and the state has of it what the volume has.
 use Rattle.std.proofs.Common.{sym, subst, ◌∙◌}
 use Rattle.image.specs.Pieces.{part_piece}
+use Rattle.image.specs.declared.layout.TheConstants.{VERSION}
 use Rattle.parcel.specs.Tree.{IsWholeTree, state_in}
 use Rattle.parcel.proofs.ReadPieces.{piece_is_there, has_volume}
 use Rattle.parcel.proofs.pieces.write_piece.Goals as goal
@@ -27,4 +28,4 @@ returns c =
     let whole = subst IsWholeTree (sym c.t.view_is) c.requires.whole in
     rw (sym c.t.view_is)
     (c.write_part.ensures _ at.result.aggregate at.result.volume whole.state (has_volume g c.t.inside.root at.result.aggregate at.result.volume c.in-Some.ensures)
-    ∙ (λ i. part_piece 2 g (state_in (record { geometry = g; root = c.t.inside.root })) (at.ensures.aggregate i) (at.ensures.volume i) (at.ensures.part i)))
+    ∙ (λ i. part_piece VERSION g (state_in (record { geometry = g; root = c.t.inside.root })) (at.ensures.aggregate i) (at.ensures.volume i) (at.ensures.part i)))

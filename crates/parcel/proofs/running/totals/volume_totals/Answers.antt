@@ -3,13 +3,13 @@ use Rattle.std.proofs.Common.{◌≡◌, ap, sym, subst, ◌∙◌}
 use Rattle.std.specs.Prelude.{count_ones, IfSome}
 use Rattle.parcel.proofs.PieceBytes.{mark_byte}
 use Rattle.affinity.specs.declared.geometry.Geometry.{Geometry}
-use Rattle.meaning.specs.State.{one_if, count_below}
+use Rattle.meaning.specs.State.{count_below}
 use Rattle.meaning.proofs.FileNumber.{count_back}
 use Rattle.parcel.specs.Fits.{FitsLogical}
 use Rattle.parcel.specs.Shown.{files_in, blocks_below, has_file}
 use Rattle.parcel.specs.declared.parts.Logical.{Logical}
 use Rattle.parcel.specs.Totals.{block_total}
-use Rattle.meaning.proofs.Sums.{sum_zero}
+use Rattle.meaning.proofs.Sums.{sum_zero, one_if}
 use Rattle.parcel.proofs.StripeTotals.{no_blocks}
 use Rattle.parcel.proofs.running.totals.volume_totals.Goals as goal
 use Rattle.parcel.proofs.running.totals.volume_totals.Goals.{in-Some, in-None}
