@@ -6,6 +6,7 @@ use Rattle.affinity.specs.declared.geometry.Geometry.{Geometry}
 use Rattle.image.specs.Image.{image_of}
 use Rattle.image.specs.Pieces.{joined_below, part_of, part_piece, piece_part_size, piece_count, piece_of, piece_size, aggregate_of, volume_of, stripe_entries}
 use Rattle.image.proofs.JoinedPieces.{length-pieces}
+use Rattle.image.specs.declared.layout.TheConstants.{VERSION}
 use Rattle.device_map.specs.Layout.{image_size}
 use Rattle.device_map.specs.declared.layout.TheConstants.{BLOCK_ENTRY_SIZE}
 use Rattle.meaning.specs.State.{empty, sum_below}
@@ -23,19 +24,19 @@ zeros_joined (suc n) f size are = (λ i. zeros_joined n f size are i ++ are n i)
 no_entries : (g : Geometry) (a v s : ℕ) → stripe_entries g empty a v s ≡ []
 no_entries g a v s = none_joined g.files _ (λ f. none_joined g.blocks _ (λ b. refl))
 
-blank_part : (g : Geometry) (a v p : ℕ) → part_piece 2 g empty a v p ≡ replicate (piece_part_size g p) 0
+blank_part : (g : Geometry) (a v p : ℕ) → part_piece VERSION g empty a v p ≡ replicate (piece_part_size g p) 0
 blank_part g a v zero = refl
 blank_part g a v (suc s) =
     ap (λ (es : List BlockEntry). flat_map entry_bytes es ++ replicate (g.quota * BLOCK_ENTRY_SIZE - length (flat_map entry_bytes es)) 0) (no_entries g a v s)
     ∙ (let all : g.quota * BLOCK_ENTRY_SIZE - 0 ≡ g.quota * BLOCK_ENTRY_SIZE = omega arith in ap (λ (n : ℕ). replicate n 0) all)
 
-pub empty_spelled : (g : Geometry) → image_of 2 g empty ≡ 2 ∷ replicate (image_size g - 1) 0
+pub empty_spelled : (g : Geometry) → image_of VERSION g empty ≡ VERSION ∷ replicate (image_size g - 1) 0
 unfolding image_size
 empty_spelled g =
     let sum : ℕ = sum_below (piece_count g) (piece_size g) in
-    let pieces : joined_below (piece_count g) (piece_of 2 g empty) ≡ replicate sum 0 =
-    zeros_joined (piece_count g) (piece_of 2 g empty) (piece_size g) (λ n. blank_part g (aggregate_of g n) (volume_of g n) (part_of g n)) in
+    let pieces : joined_below (piece_count g) (piece_of VERSION g empty) ≡ replicate sum 0 =
+    zeros_joined (piece_count g) (piece_of VERSION g empty) (piece_size g) (λ n. blank_part g (aggregate_of g n) (volume_of g n) (part_of g n)) in
     let long : 63 + sum ≡ 64 + g.aggregates * g.volumes * (64 + g.stripes * (g.quota * BLOCK_ENTRY_SIZE)) - 1 = omega (arith, length-pieces g) in
-    ap (λ (l : List ℕ). 2 ∷ (replicate 63 0 ++ l)) pieces
-    ∙ ap (λ (l : List ℕ). 2 ∷ l) (replicate-append-replicate 63 sum 0)
-    ∙ ap (λ (n : ℕ). 2 ∷ replicate n 0) long
+    ap (λ (l : List ℕ). VERSION ∷ (replicate 63 0 ++ l)) pieces
+    ∙ ap (λ (l : List ℕ). VERSION ∷ l) (replicate-append-replicate 63 sum 0)
+    ∙ ap (λ (n : ℕ). VERSION ∷ replicate n 0) long

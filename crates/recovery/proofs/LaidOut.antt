@@ -15,6 +15,7 @@ use Rattle.disk.proofs.SameOutside.{same_before, same_behind}
 use Rattle.disk.proofs.Overlays.{overlaid_outside, length-overlaid, range-overlaid}
 use Rattle.image.specs.Image.{image_of, image_state, version_in}
 use Rattle.image.proofs.ReadImage.{read_again}
+use Rattle.image.specs.declared.layout.TheConstants.{VERSION}
 use Rattle.oplog.proofs.PartLemmas.{nothing_over, slice_slice}
 use Rattle.oplog.specs.HalfContent.{chain, front, gates, count_open, rows}
 use Rattle.device_map.specs.Layout.{Layout, slice, layout_of, part_bytes, part_at, device_size, half_part, half_size, header_part, image_part, image_size}
@@ -82,10 +83,10 @@ module _ (g : Geometry) (c : List ℕ) (laid : IsAllButHeader g c) where
   no_front : front l 0 c ≡ []
   no_front = ap (λ (n : ℕ). rows RECORD_SIZE n (drop (64 + g.half) (part_bytes l (half_part 0) c))) (ap count_open shut_0 ∙ open_none g.half)
 
-  image_there : part_bytes l (image_part 0) c ≡ image_of 2 g empty
+  image_there : part_bytes l (image_part 0) c ≡ image_of VERSION g empty
   image_there =
       let some = image_some g in
-      let long : length {A = ℕ} (2 ∷ replicate {A = ℕ} (image_size g - 1) 0) ≡ image_size g = omega (arith, some, length-replicate {A = ℕ} (image_size g - 1) 0) in
+      let long : length {A = ℕ} (VERSION ∷ replicate {A = ℕ} (image_size g - 1) 0) ≡ image_size g = omega (arith, some, length-replicate {A = ℕ} (image_size g - 1) 0) in
       sym (ap (λ (n : ℕ). slice c (part_at l 4) n) long) ∙ laid.image ∙ sym (empty_spelled g)
 
   in_force_none : in_force l 0 c ≡ []
@@ -107,7 +108,7 @@ holds_empty g c long headed is_formatted =
     ∙ ap (λ (rs : List (List ℕ)). run (decoding g) (Some empty) rs) (in_force_none g c laid)
 
 -- Its image, which is named, has version 2.
-pub version_empty : (g : Geometry) (c : List ℕ) → IsAllButHeader g c → named_version g c ≡ 2
+pub version_empty : (g : Geometry) (c : List ℕ) → IsAllButHeader g c → named_version g c ≡ VERSION
 version_empty g c laid =
     ap (λ (n : ℕ). version_in (part_bytes (layout_of g) (image_part n) c)) (names_0 g c laid) ∙ ap (λ (bytes : List ℕ). version_in bytes) (image_there g c laid)
 
@@ -143,15 +144,15 @@ torn_open g c torn long headed same =
     (cases_eq (get_or torn 0 0) 1)
 
 -- one byte written over the first of a row of zeros
-version_put : (n : ℕ) (c : List ℕ) (at : ℕ) → at + suc n ≤ length c → HasBytesAt c at (replicate (suc n) 0) → HasBytesAt (overlaid c at (2 ∷ [])) at (2 ∷ replicate n 0)
+version_put : (n : ℕ) (c : List ℕ) (at : ℕ) → at + suc n ≤ length c → HasBytesAt c at (replicate (suc n) 0) → HasBytesAt (overlaid c at (VERSION ∷ [])) at (VERSION ∷ replicate n 0)
 version_put n [] at inside has = absurd (omega (arith, inside))
 version_put n (x ∷ c) zero inside has =
     let behind : take (length (replicate {A = ℕ} n 0)) c ≡ replicate n 0 = ap (λ (l : List ℕ). drop 1 l) has in
-    ap (λ (l : List ℕ). 2 ∷ take (length (replicate {A = ℕ} n 0)) l) (nothing_over c 0) ∙ ap (λ (l : List ℕ). 2 ∷ l) behind
+    ap (λ (l : List ℕ). VERSION ∷ take (length (replicate {A = ℕ} n 0)) l) (nothing_over c 0) ∙ ap (λ (l : List ℕ). VERSION ∷ l) behind
 version_put n (x ∷ c) (suc at) inside has = version_put n c at (omega (arith, inside)) has
 
 version_there : (g : Geometry) (c : List ℕ) (at : ℕ) → at + image_size g ≤ length c → HasBytesAt c at (replicate (image_size g) 0)
-    → HasBytesAt (overlaid c at (2 ∷ [])) at (2 ∷ replicate (image_size g - 1) 0)
+    → HasBytesAt (overlaid c at (VERSION ∷ [])) at (VERSION ∷ replicate (image_size g - 1) 0)
 version_there g c at inside has =
     let some = image_some g in
     let count : image_size g ≡ suc (image_size g - 1) = omega (arith, some) in
@@ -160,7 +161,7 @@ version_there g c at inside has =
 -- the ranges of an empty device, written one after the other
 pub laid_out : (g : Geometry) (c : List ℕ) → device_size (layout_of g) ≤ length c
     → IsAllButHeader g (overlaid (overlaid (overlaid (overlaid c 64 (replicate (64 + (64 + g.half)) 0)) (part_at (layout_of g) 3)
-    (replicate (64 + g.half) 0)) (part_at (layout_of g) 4) (replicate (image_size g) 0)) (part_at (layout_of g) 4) (2 ∷ []))
+    (replicate (64 + g.half) 0)) (part_at (layout_of g) 4) (replicate (image_size g) 0)) (part_at (layout_of g) 4) (VERSION ∷ []))
 laid_out g c long =
     let zeros_0 : List ℕ = replicate (64 + (64 + g.half)) 0 in
     let zeros_1 : List ℕ = replicate (64 + g.half) 0 in
@@ -172,7 +173,7 @@ laid_out g c long =
     let c1 = overlaid c 64 zeros_0 in
     let c2 = overlaid c1 at_1 zeros_1 in
     let c3 = overlaid c2 at_2 zeros_2 in
-    let c4 = overlaid c3 at_2 (2 ∷ []) in
+    let c4 = overlaid c3 at_2 (VERSION ∷ []) in
     let size_1 : length c1 ≡ length c = length-overlaid c 64 zeros_0 in
     let size_2 : length c2 ≡ length c1 = length-overlaid c1 at_1 zeros_1 in
     let root_1 : HasBytesAt c1 64 zeros_0 = has_put c 64 zeros_0 (omega (arith, long, long_0)) in
@@ -182,7 +183,7 @@ laid_out g c long =
     let one_3 : HasBytesAt c3 at_1 zeros_1 = has_kept at_1 (inl (omega (arith, long_1))) (overlaid_outside c2 at_2 zeros_2) one_2 in
     let image_3 : HasBytesAt c3 at_2 zeros_2 = has_put c2 at_2 zeros_2 (omega (arith, long, length-replicate {A = ℕ} (image_size g) 0, size_1, size_2)) in
     record {
-      root = has_kept 64 (inl (omega (arith, long_0))) (overlaid_outside c3 at_2 (2 ∷ [])) root_3;
-      one = has_kept at_1 (inl (omega (arith, long_1))) (overlaid_outside c3 at_2 (2 ∷ [])) one_3;
+      root = has_kept 64 (inl (omega (arith, long_0))) (overlaid_outside c3 at_2 (VERSION ∷ [])) root_3;
+      one = has_kept at_1 (inl (omega (arith, long_1))) (overlaid_outside c3 at_2 (VERSION ∷ [])) one_3;
       image = version_there g c3 at_2 (omega (arith, long, size_1, size_2, length-overlaid c2 at_2 zeros_2)) image_3;
     }
