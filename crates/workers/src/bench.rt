@@ -13,7 +13,7 @@ ghost use Rattle.workers.specs.declared.job_cell.CellContent.TheVariants.{Delive
 ghost use Rattle.workers.specs.declared.seats.SeatRole.TheVariants.{Dispatcher};
 
 use crate::atomic_steps::{self, BenchInvariant, Words};
-use crate::event_counts::wake_worker;
+use crate::event_counts::{wait_delivery, wake_worker};
 use crate::job_cell::JobCell;
 use crate::seats::{DispatchSeat, Seat, SeatRole, WorkSeat, rotate_to};
 use crate::words::{DELIVERED, FIRST_PLACE, MOST_PLACES, OFFER_EVENT, STOP};
@@ -21,6 +21,7 @@ use atomic_table::Table;
 use parcel::{Done, Job};
 use std::alloc::{AllocError, Global};
 use std::marker::Model;
+use std::sync::Wait;
 
 /// The table at which one dispatcher and its workers meet. A contract sees the table's identity, and `places_of` it, the number of places.
 pub struct Bench {
@@ -105,6 +106,14 @@ impl Bench {
             return None;
         }
         Some(take_delivered(words, &mut seat.seat, &mut seat.lent, k))
+    }
+
+    /// Sleeps until something was delivered since the last wait returned, or since the start.
+    pub fn wait<R: Wait>(&self, rt: &R, seat: &mut DispatchSeat)
+        requires { seat.old.bench ≡ self.now }
+        ensures { seat.new ≡ seat.old }
+    {
+        seat.seen = wait_delivery(&self.table.shared, &mut seat.seat, rt, seat.seen);
     }
 
     /// Signals the workers to end, each once it has delivered what it has claimed.

@@ -7,9 +7,9 @@ ghost use Rattle.workers.specs.declared.seats.SeatRole.TheVariants.{Claimed};
 
 use crate::atomic_steps::{self, Words};
 use crate::bench::Bench;
-use crate::event_counts::{signal_delivery, sleep, spin_then_sleep, wait_delivery, wake_worker};
+use crate::event_counts::{signal_delivery, sleep, spin_then_sleep, wake_worker};
 use crate::gate::Gate;
-use crate::seats::{DispatchSeat, Seat, WorkSeat};
+use crate::seats::{Seat, WorkSeat};
 use crate::words::{FIRST_PLACE, OFFER_EVENT, OFFERED, STOP};
 use parcel::run;
 use std::alloc::AllocError;
@@ -79,14 +79,6 @@ impl Bench {
         }
         Ok(())
     }
-
-    /// Sleeps until something was delivered since the last wait returned, or since the start.
-    pub fn wait<R: Wait>(&self, rt: &R, seat: &mut DispatchSeat)
-        requires { seat.old.bench ≡ self.now }
-        ensures { seat.new ≡ seat.old }
-    {
-        seat.seen = wait_delivery(&self.table.shared, &mut seat.seat, rt, seat.seen);
-    }
 }
 
 // Wakes another worker where a place after k has a job too. An offer wakes nobody while a worker spins. The worker that spun may be this
@@ -112,7 +104,7 @@ fn try_places<G: Gate>(words: &Words, seat: &mut Seat, places: usize, gate: &G) 
 {
     let mut round = Round::Idle;
     for k in 0..places {
-        if let Some(woke) = run_place(words, seat, k, places, gate) {
+        if let Some(woke) = try_place(words, seat, k, places, gate) {
             round = if woke { Round::Woke } else { Round::Served };
         }
     }
@@ -120,7 +112,7 @@ fn try_places<G: Gate>(words: &Words, seat: &mut Seat, places: usize, gate: &G) 
 }
 
 // Does the job of a place if it can be claimed. Returns `None` if it can't, else whether its delivery signaled the dispatcher to wake.
-fn run_place<G: Gate>(
+fn try_place<G: Gate>(
     words: &Words,
     seat: &mut Seat,
     k: usize,
