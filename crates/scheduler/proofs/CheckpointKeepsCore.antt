@@ -1,6 +1,6 @@
 -- A core in a step of a checkpoint.
 use Rattle.std.proofs.Common.{◌≡◌, ℕ, ◌+◌, ◌-◌, ◌≤◌, Bool, true, false, [], map, length, Option, Some, None, Result, Ok, Err, refl, ap, sym, subst, ◌∙◌, arith}
-use Rattle.std.specs.Prelude.{if◌then◌else◌, is_some, nat_lt, option_map, OnOk, OnErr}
+use Rattle.std.specs.Prelude.{if◌then◌else◌, is_some, nat_lt, option_map, IfSome, OnOk, OnErr}
 use Rattle.std.proofs.lemmas.Bool.{ltb-false, true≢false}
 use Rattle.std.proofs.lemmas.List.{nil_from_length}
 use Rattle.affinity.specs.declared.geometry.Geometry.{Geometry}
@@ -10,7 +10,6 @@ use Rattle.image.specs.Pieces.{piece_count}
 use Rattle.checkpoint.specs.Journal.{JournalView, after_call, committed}
 use Rattle.checkpoint.specs.DirtyPieces.{DirtyPieces, count_dirty, cut_dirty, flipped_dirty, pointed_dirty}
 use Rattle.histories.specs.Events.{point_refusal}
-use Rattle.histories.specs.IsSoundCoreState.{IsSoundCoreState}
 use Rattle.histories.specs.CoreState.{CoreState, held}
 use Rattle.histories.specs.declared.outcomes.Outcome.TheVariants as outcomes
 use Rattle.histories.specs.declared.outcomes.PointRefusal.{PointRefusal}
@@ -24,7 +23,7 @@ use Rattle.parcel.specs.Nodes.{tree_state}
 use Rattle.meaning.specs.State.{IsState}
 use Rattle.scheduler.proofs.IsCallEvent.{cut_called, point_called}
 use Rattle.scheduler.proofs.UnloggedChanges.{held_count}
-use Rattle.scheduler.proofs.JournalKeepsCore.{called_sound, step_core, step_throughout, with_journal}
+use Rattle.scheduler.proofs.JournalKeepsCore.{IsSoundIn, called_sound, step_core, step_throughout, with_journal}
 use Rattle.scheduler.specs.CoreView.{CoreView, RecoversThroughout, core_state_of}
 use Rattle.scheduler.specs.View.{parts, core_view_of, core_state_in}
 use Rattle.scheduler.specs.IsCore.{IsSoundCore, IsCore, is_below, reached}
@@ -92,13 +91,13 @@ called_core is made = record { chains = is.chains; core = made; batch = is.batch
 module _ (keeps : Type 0) (p : Parts) (k : IsCore keeps p) (works : p.journal.failed ≡ false) (new : JournalView)
     (any : keeps → CrashImagesAre p.journal.medium new.medium (λ c. recovered_state p.journal.geometry c ≡ committed p.journal)) where
   pub made_core : (room : ℕ) (pieces_left : Option ℕ) (dirty : DirtyPieces) → new ≡ record p.journal { room = room; pieces_left = pieces_left; dirty = dirty; medium = new.medium }
-      → (keeps → committed new ≡ committed p.journal) → IsSoundCoreState p.journal.geometry (core_state_in (with_journal p room pieces_left p.journal.failed dirty new.medium))
+      → (keeps → committed new ≡ committed p.journal) → IsSoundIn (with_journal p room pieces_left p.journal.failed dirty new.medium)
       → IsCore keeps (record p { journal = new })
   made_core room pieces_left dirty is same sound = subst (λ (j : JournalView). IsCore keeps (record p { journal = j })) (sym is)
       (step_core keeps p k works new.medium any room pieces_left p.journal.failed dirty sound (λ keep fine. sym (ap committed is) ∙ same keep))
 
   pub broken_core : new ≡ record p.journal { failed = true; medium = new.medium }
-      → IsSoundCoreState p.journal.geometry (core_state_in (with_journal p p.journal.room p.journal.pieces_left true p.journal.dirty new.medium)) → IsCore keeps (record p { journal = new })
+      → IsSoundIn (with_journal p p.journal.room p.journal.pieces_left true p.journal.dirty new.medium) → IsCore keeps (record p { journal = new })
   broken_core is sound = subst (λ (j : JournalView). IsCore keeps (record p { journal = j })) (sym is)
       (step_core keeps p k works new.medium any p.journal.room p.journal.pieces_left true p.journal.dirty sound (λ keep fine. absurd (true≢false fine)))
 
@@ -115,25 +114,34 @@ module _ (keeps : Type 0) (p : Parts) (k : IsCore keeps p) (new : JournalView)
   w = core_state_in p
 
   -- if the device fails, the core state stays sound
-  failed_sound : IsSoundCoreState g (core_state_in (with_journal p p.journal.room p.journal.pieces_left true p.journal.dirty new.medium))
-  failed_sound = assumption k.sound
+  failed_sound : IsSoundIn (with_journal p p.journal.room p.journal.pieces_left true p.journal.dirty new.medium)
+  failed_sound = (assumption k.sound, k.few_pieces)
 
-  pointed_sound : point_refusal (core_state_in p) ≡ None → IsSoundCoreState g (core_state_in (with_journal p g.half p.journal.pieces_left p.journal.failed new.dirty new.medium))
-  pointed_sound why = called_sound g w (record w { room = g.half }) steps.Point outcomes.Pointed false
-      (point_called g w (record w { room = g.half }) (Ok tt) (why, refl)) k.sound
+  pointed_sound : point_refusal (core_state_in p) ≡ None → IsSoundIn (with_journal p g.half p.journal.pieces_left p.journal.failed new.dirty new.medium)
+  pointed_sound why = (
+    called_sound g w (record w { room = g.half }) steps.Point outcomes.Pointed false (point_called g w (record w { room = g.half }) (Ok tt) (why, refl)) k.sound,
+    k.few_pieces,
+  )
 
-  cut_sound : point_refusal (core_state_in p) ≡ None → (n : ℕ) → n ≤ piece_count g → IsSoundCoreState g (core_state_in (with_journal p g.half (Some n) p.journal.failed new.dirty new.medium))
-  cut_sound why n few = called_sound g w (record w { room = g.half; pieces_left = Some n }) steps.Cut outcomes.Cut false
-      (cut_called g w (record w { room = g.half; pieces_left = Some n }) (Ok tt) (why, (n, few, refl))) k.sound
+  cut_sound : point_refusal (core_state_in p) ≡ None → (n : ℕ) → n ≤ piece_count g → IsSoundIn (with_journal p g.half (Some n) p.journal.failed new.dirty new.medium)
+  cut_sound why n few = (
+    called_sound g w (record w { room = g.half; pieces_left = Some n }) steps.Cut outcomes.Cut false
+        (cut_called g w (record w { room = g.half; pieces_left = Some n }) (Ok tt) (why, (n, few, refl))) k.sound,
+    few,
+  )
 
-  -- however many pieces are left to write, the core state stays sound
-  left_sound : (pieces_left : Option ℕ) (dirty : DirtyPieces)
-      → IsSoundCoreState g (core_state_in (with_journal p p.journal.room pieces_left p.journal.failed dirty new.medium))
-  left_sound pieces_left dirty = assumption k.sound
+  -- with no more pieces left to write than there are, the core state stays sound
+  left_sound : (pieces_left : Option ℕ) (dirty : DirtyPieces) → IfSome pieces_left (λ n. n ≤ piece_count g)
+      → IsSoundIn (with_journal p p.journal.room pieces_left p.journal.failed dirty new.medium)
+  left_sound pieces_left dirty few = (assumption k.sound, few)
+
+  fewer : (pieces_left : Option ℕ) → IfSome pieces_left (λ n. n ≤ piece_count g) → IfSome (option_map (λ l. l - 1) pieces_left) (λ n. n ≤ piece_count g)
+  fewer None few = tt
+  fewer (Some n) few = omega (arith, few)
 
   made_or_broken : {T : Type 0} (result : Result T LogFault) → p.journal.failed ≡ false → OnOk result (keeps → committed new ≡ committed p.journal)
       → (room : ℕ) (pieces_left : Option ℕ) (dirty : DirtyPieces)
-      → IsSoundCoreState g (core_state_in (with_journal p room pieces_left p.journal.failed dirty new.medium))
+      → IsSoundIn (with_journal p room pieces_left p.journal.failed dirty new.medium)
       → new ≡ after_call result (record p.journal { room = room; pieces_left = pieces_left; dirty = dirty; medium = new.medium }) p.journal
       → IsCore keeps (record p { journal = new })
   made_or_broken (Ok x) works same room pieces_left dirty sound is = made_core keeps p k works new any room pieces_left dirty is same sound
@@ -165,9 +173,9 @@ module _ (keeps : Type 0) (p : Parts) (k : IsCore keeps p) (new : JournalView)
     pub piece_core : new ≡ after_call result (record p.journal { pieces_left = option_map (λ l. l - 1) p.journal.pieces_left; medium = new.medium }) p.journal
         → IsCore keeps (record p { journal = new })
     piece_core is = made_or_broken result works settles p.journal.room (option_map (λ l. l - 1) p.journal.pieces_left) p.journal.dirty
-        (left_sound _ p.journal.dirty) is
+        (left_sound _ p.journal.dirty (fewer p.journal.pieces_left k.few_pieces)) is
 
   module _ (result : Result (Unit {0}) LogFault) (works : p.journal.failed ≡ false)
       (settles : OnOk result (keeps → committed new ≡ committed p.journal)) where
     pub flip_core : new ≡ after_call result (record p.journal { pieces_left = None; dirty = flipped_dirty p.journal.dirty; medium = new.medium }) p.journal → IsCore keeps (record p { journal = new })
-    flip_core is = made_or_broken result works settles p.journal.room None (flipped_dirty p.journal.dirty) (left_sound None (flipped_dirty p.journal.dirty)) is
+    flip_core is = made_or_broken result works settles p.journal.room None (flipped_dirty p.journal.dirty) (left_sound None (flipped_dirty p.journal.dirty) tt) is

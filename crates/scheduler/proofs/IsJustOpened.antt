@@ -1,5 +1,5 @@
 -- A core that was just opened keeps what a core keeps.
-use Rattle.std.proofs.Common.{◌≡◌, ◌≤◌, ℕ, [], Some, length, refl, sym, ap, subst, ◌∙◌, arith}
+use Rattle.std.proofs.Common.{◌≡◌, ◌<◌, ◌≤◌, ℕ, [], None, Some, length, refl, sym, ap, subst, ◌∙◌, arith}
 use Rattle.std.specs.Prelude.{vec_capacity}
 use Rattle.std.proofs.lemmas.List.{length-replicate}
 use Rattle.affinity.specs.declared.geometry.Geometry.{Geometry}
@@ -22,7 +22,7 @@ use Rattle.scheduler.specs.declared.core_memory.TheConstants.{RAN, CHAINS}
 use Rattle.run_queue.specs.RunQueue.{queue_at_start}
 
 module _ {D : Type 0} {keeps : Type 0} (core : Inside D) (n : ℕ) (same : core.tree.geometry ≡ core.journal.geometry) (whole : IsWholeTree core.tree)
-    (holds : keeps → (committed core.journal ≡ Some (state_in core.tree)) × IsRecoverable core.journal) where
+    (some : 0 < n) (no_cut : core.journal.pieces_left ≡ None) (holds : keeps → (committed core.journal ≡ Some (state_in core.tree)) × IsRecoverable core.journal) where
   abbrev none : ArenaView Slot
   none = empty_arena n CHAINS
 
@@ -54,6 +54,7 @@ module _ {D : Type 0} {keeps : Type 0} (core : Inside D) (n : ℕ) (same : core.
 
   pub opened_core : IsCore keeps opened
   opened_core = record {
+    some_slot = omega (arith, size, some);
     claimed = let all = length-numbers 0 n in let there = size in omega (arith, all, there);
     placed = record { waiting = tt; in_flight = tt; ran = tt; logged = tt };
     queue_geometry = refl;
@@ -67,6 +68,7 @@ module _ {D : Type 0} {keeps : Type 0} (core : Inside D) (n : ℕ) (same : core.
     is_committed = λ k works. (holds k).0;
     recovers = λ k bytes leaves. record { added = 0; at_most = omega arith; is = (holds k).1.each bytes leaves ∙ (holds k).0 };
     no_doubt = λ works. refl;
+    few_pieces = rw no_cut tt;
   }
 
   -- a core whose fields are as those of the parts above

@@ -1,6 +1,6 @@
 -- A core whose journal was called: what holds afterwards, and at each moment.
-use Rattle.std.proofs.Common.{◌≡◌, ℕ, Bool, true, false, List, [], take, Option, Some, refl, ap, sym, subst, ◌∙◌, arith}
-use Rattle.std.specs.Prelude.{if◌then◌else◌}
+use Rattle.std.proofs.Common.{◌≡◌, ◌≤◌, ℕ, Bool, true, false, List, [], take, Option, Some, refl, ap, sym, subst, ◌∙◌, arith}
+use Rattle.std.specs.Prelude.{IfSome, if◌then◌else◌}
 use Rattle.std.proofs.lemmas.Bool.{cond-false, cond-true}
 use Rattle.affinity.specs.declared.geometry.Geometry.{Geometry}
 use Rattle.recovery.specs.Recovery.{recovered_state}
@@ -9,6 +9,7 @@ use Rattle.disk.specs.Device.{Medium}
 use Rattle.disk.specs.CrashImages.{CrashImagesAre}
 use Rattle.checkpoint.specs.Journal.{RecoversWithPrefix, committed}
 use Rattle.checkpoint.specs.DirtyPieces.{DirtyPieces}
+use Rattle.image.specs.Pieces.{piece_count}
 use Rattle.histories.proofs.IsSoundCoreState.{event_sound}
 use Rattle.histories.specs.IsSoundCoreState.{IsSoundCoreState}
 use Rattle.histories.specs.CoreState.{CoreState}
@@ -57,6 +58,10 @@ called_sound g old new step outcome device_failed called sound = event_sound g (
 abbrev pub with_journal : Parts → ℕ → Option ℕ → Bool → DirtyPieces → Medium → Parts
 with_journal p room pieces_left failed dirty medium = record p { journal = record p.journal { room = room; pieces_left = pieces_left; failed = failed; dirty = dirty; medium = medium } }
 
+-- The core state is sound, and no more pieces are left than there are.
+abbrev pub IsSoundIn : Parts → Type 0
+IsSoundIn p = IsSoundCoreState p.journal.geometry (core_state_in p) × IfSome p.journal.pieces_left (λ n. n ≤ piece_count p.journal.geometry)
+
 module _ (keeps : Type 0) (p : Parts) (k : IsCore keeps p) (works : p.journal.failed ≡ false) where
   abbrev g : Geometry
   g = p.journal.geometry
@@ -79,7 +84,7 @@ module _ (keeps : Type 0) (p : Parts) (k : IsCore keeps p) (works : p.journal.fa
         (leaves_now p.journal.medium medium _ (step_moments keep) c leaves)
 
     -- the step was made, or the device failed
-    pub step_core : (room : ℕ) (pieces_left : Option ℕ) (failed : Bool) (dirty : DirtyPieces) → IsSoundCoreState g (core_state_in (with_journal p room pieces_left failed dirty medium))
+    pub step_core : (room : ℕ) (pieces_left : Option ℕ) (failed : Bool) (dirty : DirtyPieces) → IsSoundIn (with_journal p room pieces_left failed dirty medium)
         → (keeps → failed ≡ false → committed (record p.journal { room = room; pieces_left = pieces_left; failed = failed; dirty = dirty; medium = medium }) ≡ committed p.journal)
         → IsCore keeps (with_journal p room pieces_left failed dirty medium)
     step_core room pieces_left failed dirty sound same =
@@ -87,4 +92,4 @@ module _ (keeps : Type 0) (p : Parts) (k : IsCore keeps p) (works : p.journal.fa
         → committed (record p.journal { room = room; pieces_left = pieces_left; failed = failed; dirty = dirty; medium = medium }) ≡ Some (core_state_in p).committed =
         λ keep fine. same keep fine ∙ committed_now keep in
         let no_doubt : failed ≡ false → p.batch ≡ [] = λ fine. k.no_doubt works in
-        assumption (sound, is_committed, step_recovers room pieces_left failed dirty, no_doubt, k)
+        assumption (sound.0, sound.1, is_committed, step_recovers room pieces_left failed dirty, no_doubt, k)

@@ -1,10 +1,11 @@
 -- Inner: What a core keeps true of its parts, and of its fields, between calls.
-use Rattle.std.specs.Prelude.{◌≡◌, ◌≤◌, ◌+◌, Bool, false, List, [], map, length, Some, vec_capacity}
+use Rattle.std.specs.Prelude.{◌≡◌, ◌<◌, ◌≤◌, ◌+◌, Bool, false, List, [], map, length, Some, IfSome, vec_capacity}
 use Rattle.std.specs.List.{list_any}
 use Rattle.affinity.specs.Path.{Path, is_prefix}
 use Rattle.affinity.specs.declared.geometry.Geometry.{Geometry}
 use Rattle.arena.specs.ArenaView.{capacity_of}
 use Rattle.checkpoint.specs.Journal.{committed}
+use Rattle.image.specs.Pieces.{piece_count}
 use Rattle.histories.specs.Eligible.{unlogged_changes}
 use Rattle.histories.specs.IsSoundCoreState.{IsSoundCoreState}
 use Rattle.histories.specs.CoreState.{Entry, CoreState, entries}
@@ -32,6 +33,7 @@ reached g w = state_after_all g w.committed (messages_of (entries w.ran))
 
 -- What a core keeps true of its parts. `keeps`: the device keeps its bytes.
 pub record IsCore (keeps : Type 0) (p : Parts) : Type 0 where
+  pub some_slot : 0 < p.capacity
   -- each slot is free or in one of the four lists of `phases`
   pub claimed : p.free
       + (length p.phases.waiting + (length p.phases.logged + (length p.phases.ran + length p.phases.in_flight))) ≡ p.capacity
@@ -51,6 +53,8 @@ pub record IsCore (keeps : Type 0) (p : Parts) : Type 0 where
   pub is_committed : keeps → p.journal.failed ≡ false → committed p.journal ≡ Some (core_state_in p).committed
   pub recovers : keeps → RecoversNow (core_view_of p)
   pub no_doubt : p.journal.failed ≡ false → p.batch ≡ []
+  -- a checkpoint in progress has no more pieces left than there are
+  pub few_pieces : IfSome p.journal.pieces_left (λ n. n ≤ piece_count p.journal.geometry)
 
 module _ {D : Type 0} where
   -- What a core keeps true of its fields.

@@ -1,5 +1,5 @@
 //! The core: the messages that it has taken in, what they run on, and the journal of what was carried out.
-ghost use Rattle.std.specs.Prelude.{cond, nat_lt, ◌≡◌, ◌≢◌, ◌<◌, ◌+◌, ◌*◌, ◌≤◌, ℕ, false, List, Some, None, [], length, OnOk, IfOk, IfErr, MatchResult};
+ghost use Rattle.std.specs.Prelude.{cond, nat_lt, ◌≡◌, ◌≢◌, ◌<◌, ◌+◌, ◌*◌, ◌≤◌, ℕ, false, List, Some, None, [], length, OnOk, IfOk, IfSome, IfErr, MatchResult};
 ghost use Rattle.affinity.specs.declared.geometry.Geometry.{Geometry};
 ghost use Rattle.recovery.specs.Header.{HasHeader};
 ghost use Rattle.recovery.specs.Recovery.{recovered_state};
@@ -288,7 +288,7 @@ impl<D: Disk> Core<D> {
         ensures any_moment { D.keeps → RecoversThroughout (batch (core_state_of self.old) n) self.old self.new }
         ensures beyond { D.keeps → KeepsBeyond (layout_of self.old.geometry) self.old.medium self.new.medium }
 
-        // It takes four writes and syncs for each 64 records or fewer; where it fails, at most that.
+        // It takes four writes and syncs for each write of records; where it fails, at most that.
         ensures costs { D.keeps
             → Costs result (4 * batch_count (length (batch (core_state_of self.old) n))) self.old.medium self.new.medium }
         ensures untouched { touches_device (core_state_of self.old) (steps.Log n) ≡ false → self.new.medium ≡ self.old.medium }
@@ -430,6 +430,7 @@ impl<D: Disk> Core<D> {
     /// How many messages the core can have at once, waiting or held.
     pub fn slots(&self) -> usize
         ensures slots { result ≡ self.now.slots }
+        ensures some { 0 < result }
         ensures sound { IsSoundCoreState self.now.geometry (core_state_of self.now) }
     {
         self.slots.capacity()
@@ -454,6 +455,7 @@ impl<D: Disk> Core<D> {
         ensures sound { IsSoundCoreState self.now.geometry (core_state_of self.now) }
         ensures no_doubt { self.now.failed ≡ false → self.now.doubt ≡ [] }
         ensures now { D.keeps → RecoversNow self.now }
+        ensures few_pieces { IfSome self.now.pieces_left (λ n. n ≤ piece_count self.now.geometry) }
     {
         let _next = self.next; // what a core keeps true is known where a field is read
     }

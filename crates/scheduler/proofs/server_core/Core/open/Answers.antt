@@ -33,8 +33,8 @@ invariant_of-result g c =
     λ k. let o = c.in_ok-journal.ensures.opened k in (o.is, o.recoverable) in
     let queue = c.set_geometry.ensures ∙ ap (λ (q : RunQueueView). queue_at_start c.geometry.result q.slots) c.in-Ok.ensures.queue
     ∙ ap (λ (h : Geometry). queue_at_start h c.args.slots) c.geometry.ensures in
-    opened_sound _ c.args.slots c.in_ok-journal.ensures.tree.0 c.in_ok-journal.ensures.tree.1 holds c.in-Ok.ensures.arena c.in-Ok.ensures.partitioned
-    queue c.in-Ok.ensures.batch c.in-Ok.ensures.room c.in-Ok.ensures.replies (refl, refl, refl) c.begun.ensures
+    opened_sound _ c.args.slots c.in_ok-journal.ensures.tree.0 c.in_ok-journal.ensures.tree.1 c.requires.slots.0 c.in_ok-journal.ensures.begins.1 holds
+    c.in-Ok.ensures.arena c.in-Ok.ensures.partitioned queue c.in-Ok.ensures.batch c.in-Ok.ensures.room c.in-Ok.ensures.replies (refl, refl, refl) c.begun.ensures
 
 pub returns-clause-opened : goal.returns-clause-opened
 returns-clause-opened g c =

@@ -1,5 +1,6 @@
 -- A refusal touches nothing; the write of a piece keeps the committed state at each moment.
-use Rattle.std.proofs.Common.{[], sym, subst, ◌∙◌}
+use Rattle.std.proofs.Common.{[], ap, sym, subst, ◌∙◌, rules}
+use Rattle.disk.specs.Device.{Costs}
 use Rattle.oplog.proofs.Beyond.{beyond_none}
 use Rattle.oplog.specs.Beyond.{KeepsBeyond}
 use Rattle.device_map.specs.Layout.{layout_of}
@@ -36,3 +37,8 @@ returns-in_default-clause-beyond g c = λ keep. beyond_none (layout_of c.args.se
 pub returns-clause-beyond : goal.returns-clause-beyond
 returns-clause-beyond g c = λ keep.
     subst (λ (o : CoreView). KeepsBeyond (layout_of o.geometry) o.medium c.piece.new.self.medium) c.self.view_is (c.piece.ensures.beyond keep)
+
+pub returns-clause-costs : goal.returns-clause-costs
+returns-clause-costs g c = λ some keep.
+    let cost = c.piece.ensures.costs (λ none. some (sym (ap (λ (o : CoreView). o.pieces_left) c.self.view_is) ∙ none)) keep in
+    subst (λ (o : CoreView). Costs c.map_err.result 1 o.medium c.piece.new.self.medium) c.self.view_is (search rules)
