@@ -1,9 +1,17 @@
 -- The message is answered, and its line completed; and the session keeps its invariant.
-use Rattle.std.proofs.Common.{refl}
+use Rattle.std.proofs.Common.{◌≡◌, ◌∙◌, ap, refl}
+use Rattle.protocol.specs.declared.replies.Reply.{Reply}
+use Rattle.protocol.specs.declared.replies.Reply.TheVariants as replies
 use Rattle.scheduler.proofs.MachineSteps.{answer_step}
 use Rattle.serving.proofs.AnsweredLine.{is_answered_so, none_answered}
 use Rattle.serving.proofs.SessionInvariant.{holds_of, on_answer, on_machine, on_trigger}
+use Rattle.serving.specs.Checkpoints.{trigger_after}
+use Rattle.serving.specs.declared.checkpoints.CheckpointTrigger.{CheckpointTrigger}
 use Rattle.serving.proofs.session.Session.answer_first.Goals as goal
+
+same_every : (t : CheckpointTrigger) (reply : Reply) → (trigger_after t reply).every ≡ t.every
+same_every t replies.Done = refl
+same_every t reply = refl
 
 pub invariant_of-self : goal.invariant_of-self
 invariant_of-self g c =
@@ -26,6 +34,7 @@ invariant_of-self-2 g c =
     c.answer-first.result c.answer-first.ensures.state_after) _ (holds_of g.D.Disk.keeps _ _ c.self.invariant.run) in
     record {
       run = on_trigger g.D.Disk.keeps _ _ (on_answer g.D.Disk.keeps _ _ c.self.invariant.run _ _ _ _
-          (rw c.in-Some.is at so) c.answer.ensures.lines c.answer.ensures.slots) _;
+          (rw c.in-Some.is at so) c.answer.ensures.lines c.answer.ensures.slots) _
+          (ap (λ (t : CheckpointTrigger). t.every) c.count.ensures ∙ same_every _ _);
       bench = c.self.invariant.bench;
     }

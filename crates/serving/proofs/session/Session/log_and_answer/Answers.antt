@@ -9,9 +9,9 @@ use Rattle.scheduler.specs.CoreView.{CoreView, core_state_of}
 use Rattle.serving.specs.SessionSteps.{HasLoggedNothing, KeepsReadEndAndOutputFailed}
 use Rattle.serving.specs.Session.{steps_ahead}
 use Rattle.serving.proofs.StepsAhead.{steps}
-use Rattle.serving.proofs.session.Session.log_and_reply.Given.{Over}
-use Rattle.serving.proofs.session.Session.log_and_reply.Goals.{In_ok-retire_ready}
-use Rattle.serving.proofs.session.Session.log_and_reply.Goals as goal
+use Rattle.serving.proofs.session.Session.log_and_answer.Given.{Over}
+use Rattle.serving.proofs.session.Session.log_and_answer.Goals.{In_ok-retire_ready}
+use Rattle.serving.proofs.session.Session.log_and_answer.Goals as goal
 
 some_logged : (count : ℕ) → cond (nat_lt 0 count) 1 0 ≤ count
 some_logged zero = omega arith

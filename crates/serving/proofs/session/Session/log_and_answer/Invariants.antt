@@ -3,7 +3,7 @@ use Rattle.std.proofs.Common.{◌≡◌, ◌≤◌, ◌+◌, [], false, length}
 use Rattle.std.specs.Prelude.{IsFalse, cond}
 use Rattle.serving.specs.SessionSteps.{KeepsCoreState, KeepsReadEndAndOutputFailed}
 use Rattle.serving.specs.Session.{steps_ahead}
-use Rattle.serving.proofs.session.Session.log_and_reply.Given as goal
+use Rattle.serving.proofs.session.Session.log_and_answer.Given as goal
 
 abbrev pub invariant-loop-moved : goal.invariant-loop-moved
 invariant-loop-moved g l = record {
