@@ -1,12 +1,14 @@
--- Each turn that waits for no worker leaves less to do, but for the lines that it reads: by how the turn has gone on.
-use Rattle.std.proofs.Common.{◌≡◌, ◌==◌, ◌<◌, ◌≤◌, ◌+◌, ◌-◌, ◌*◌, ℕ, zero, suc, Bool, true, false, List, [], ◌∷◌, Option, Some, None, refl, ap, sym, subst, ◌∙◌, length, ⊎_elim, arith}
+-- Each turn that waits for no worker leaves less to do, but for the lines that it reads: by how the turn has gone on. And what follows for any
+-- number of turns.
+use Rattle.std.proofs.Common.{◌≡◌, ◌≢◌, ◌==◌, ◌<◌, ◌≤◌, ◌+◌, ◌-◌, ◌*◌, ℕ, zero, suc, Bool, true, false, List, [], ◌∷◌, Option, Some, None, refl, ap, sym, subst, ◌∙◌, length, ⊎_elim, arith}
 use Rattle.std.specs.Prelude.{◌&&◌, ◌||◌, not, cond, count_by, if◌then◌else◌, is_none, is_some, nat_le, nat_lt}
-use Rattle.std.specs.List.{AllByRecursion, list_any}
+use Rattle.std.specs.List.{list_any}
 use Rattle.std.proofs.lemmas.Bool.{true≢false, and_from, and_parts, false_from_ne_true, le-leb, leb-true, lt-ltb, ltb-true, ne_eqb}
 use Rattle.std.proofs.lemmas.List.Sums.{sum_by-cons}
 use Rattle.std.proofs.Math.Bool.{and-false, or-true}
 use Rattle.std.proofs.Math.Nat.{le-mul_of_pos_right, mul-le-mul_left}
 use Rattle.affinity.specs.declared.geometry.Geometry.{Geometry}
+use Rattle.image.specs.Pieces.{piece_count}
 use Rattle.histories.proofs.Idle.{none_in_flight, none_ran}
 use Rattle.histories.specs.CoreState.{CoreState, Entry, IsIdle, Replied, held}
 use Rattle.histories.specs.Eligible.{changes, has_room, is_conflict_free, lacks_only_room, unlogged_changes}
@@ -20,8 +22,8 @@ use Rattle.scheduler.specs.CoreView.{core_state_of}
 use Rattle.serving.specs.Checkpoints.{IsDue}
 use Rattle.serving.specs.DispatchesTo.{NoneInFlight}
 use Rattle.serving.specs.Session.{CanReadLine, SessionView, steps_ahead}
-use Rattle.serving.specs.SessionSteps.{Advanced, Began, CallsForCheckpoint, CanRead, HasGoneOn, HasTakenNone, IsBlockedIn, MovedCheckpoint, Rests, StandsStill, TookStep, Waited}
-use Rattle.serving.specs.Turns.{AreTurns, IsBounded, LoopView, NoneIsSent, Turn, busy_turns, can_read, is_busy, is_counted, lines_read, may_wait, turns_a_line, turns_a_step, turns_left}
+use Rattle.serving.specs.SessionSteps.{Advanced, Began, CallsForCheckpoint, CanRead, HasGoneOn, HasTakenLines, HasTakenNone, IsBlockedIn, IsResting, MovedCheckpoint, Rests, StandsStill, TookStep, Waited}
+use Rattle.serving.specs.Turns.{AreTurns, IsInBounds, LoopView, busy_turns, can_read, is_busy, is_counted, lines_read, lines_sent, may_wait, pieces, slots, turns_a_line, turns_a_step, turns_an_answer, turns_left}
 use Rattle.serving.specs.declared.checkpoints.CheckpointTrigger.{CheckpointTrigger}
 use Rattle.serving.specs.declared.dispatch.Blocked.TheVariants as blocked
 use Rattle.serving.specs.declared.session.Activity.{Activity}
@@ -68,7 +70,7 @@ may_have_waited p in_flight flushed none =
 -- ---- why a checkpoint begins
 
 counted_so : (p : SessionView) → IsDue p.trigger p.core.pieces_left → is_counted p ≡ true
-counted_so p due = and_from _ _ (ap not (ne_eqb p.trigger.every 0 due.by_count)) (le-leb p.trigger.every p.trigger.logged_since due.enough)
+counted_so p due = and_from _ _ (ap not (ne_eqb p.trigger.every 0 due.by_count)) (le-leb p.trigger.every p.trigger.answered_since due.enough)
 
 none_counted : (every : ℕ) → (not (every == 0) && nat_le every 0) ≡ false
 none_counted zero = refl
@@ -125,15 +127,31 @@ bits_least : (o : Option ReadEnd) (b : Bool) → 1 ≤ cond (is_none o) 2 0 + co
 bits_least None b = omega arith
 bits_least (Some why) b = omega arith
 
+-- ---- a turn, as its calls make it
+
+-- `read_more` leaves the session `mid`, and says whether it read a line; `ended` gives no reason to end the loop; `advance` leaves the session
+-- of `new`.
+pub record TurnParts (old new : LoopView) : Type 0 where
+  pub rested : old.last ≡ activities.Idle → IsResting old.session
+  pub mid : SessionView
+  pub read : Activity
+  pub taken : HasTakenLines old.session mid read
+  pub waited : old.last ≡ activities.Idle → read ≡ activities.Idle → mid.read_end ≢ None
+  pub all_read : CanReadLine mid → ⊥
+  pub goes_on : mid.reorder_buffer.lines ≡ [] → mid.core.pieces_left ≡ None → mid.read_end ≡ None
+  pub read_end : new.session.read_end ≡ mid.read_end
+  pub steps : steps_ahead new.session ≤ steps_ahead mid
+  pub has_gone_on : read ≡ activities.Idle → HasGoneOn mid new.session new.last
+
 -- ---- after an idle turn
 
-module _ (p q : LoopView) (t : Turn p q) (some_slot : 0 < p.session.reorder_buffer.slots) where
+module _ (p q : LoopView) (t : TurnParts p q) where
   -- Where the last turn was idle, a line is read: else the loop would have ended.
   reads_some : p.last ≡ activities.Idle → t.read ≡ activities.Idle → ⊥
   reads_some idle none_read =
       let none = t.taken.none none_read in
       let rested = t.rested idle in
-      t.waited idle none_read (subst (λ (b : ReorderBufferView). 0 < b.slots) (sym none.lines) some_slot) (t.goes_on (ap (λ (b : ReorderBufferView). b.lines) none.lines ∙ rested.0.0)
+      t.waited idle none_read (t.goes_on (ap (λ (b : ReorderBufferView). b.lines) none.lines ∙ rested.0.0)
       (ap (λ (w : CoreState). w.pieces_left) none.still.0.1 ∙ rested.1))
 
   read_so : (read : Activity) → t.read ≡ read → p.last ≡ activities.Idle → p.session.outstanding < t.mid.outstanding
@@ -145,7 +163,7 @@ module _ (p q : LoopView) (t : Turn p q) (some_slot : 0 < p.session.reorder_buff
 
 -- ---- one turn
 
-module _ (n : ℕ) (p q : LoopView) (t : Turn p q) (some_slot : 0 < p.session.reorder_buffer.slots) (pieces : points_left q.session.core.pieces_left ≤ n + 1) where
+module _ (n : ℕ) (p q : LoopView) (t : TurnParts p q) (few_pieces : points_left q.session.core.pieces_left ≤ n + 1) where
   abbrev mid : LoopView
   mid = record { session = t.mid; last = activities.Busy }
 
@@ -157,7 +175,7 @@ module _ (n : ℕ) (p q : LoopView) (t : Turn p q) (some_slot : 0 < p.session.re
   few_others : others q < turns_a_step n
   few_others = omega (
     arith,
-    pieces,
+    few_pieces,
     at_most (is_counted q.session) (n + 2),
     at_most (q.session.core.room == 0) (n + 2),
     at_most (is_none q.session.read_end) 2,
@@ -188,7 +206,7 @@ module _ (n : ℕ) (p q : LoopView) (t : Turn p q) (some_slot : 0 < p.session.re
   room_same same = ap (λ (r : ℕ). cond (r == 0) (n + 2) 0) same
 
   count_same : q.session.trigger ≡ t.mid.trigger → cond (is_counted q.session) (n + 2) 0 ≡ cond (is_counted t.mid) (n + 2) 0
-  count_same same = ap (λ (u : CheckpointTrigger). cond (not (u.every == 0) && nat_le u.every u.logged_since) (n + 2) 0) same
+  count_same same = ap (λ (u : CheckpointTrigger). cond (not (u.every == 0) && nat_le u.every u.answered_since) (n + 2) 0) same
 
   mono : turns_a_step n * steps_ahead q.session ≤ turns_a_step n * steps_ahead t.mid
   mono = mul-le-mul_left (turns_a_step n) t.steps
@@ -214,7 +232,7 @@ module _ (n : ℕ) (p q : LoopView) (t : Turn p q) (some_slot : 0 < p.session.re
       omega (
         arith,
         mono,
-        pieces,
+        few_pieces,
         not_counted,
         roomy,
         ap points_left none,
@@ -281,7 +299,7 @@ module _ (n : ℕ) (p q : LoopView) (t : Turn p q) (some_slot : 0 < p.session.re
         arith,
         ap (λ (s : ℕ). turns_a_step n * s) (keeps_ahead p.session t.mid none.still.0),
         ap (λ (w : CoreState). points_left w.pieces_left) none.still.0.1,
-        ap (λ (u : CheckpointTrigger). cond (not (u.every == 0) && nat_le u.every u.logged_since) (n + 2) 0) none.still.1,
+        ap (λ (u : CheckpointTrigger). cond (not (u.every == 0) && nat_le u.every u.answered_since) (n + 2) 0) none.still.1,
         ap (λ (w : CoreState). cond (w.room == 0) (n + 2) 0) none.still.0.1,
         ap {B = ℕ} (λ (o : Option ReadEnd). cond (is_none o) 2 0) stopped,
         at_most_else (can_read t.mid) 1,
@@ -291,7 +309,7 @@ module _ (n : ℕ) (p q : LoopView) (t : Turn p q) (some_slot : 0 < p.session.re
 
   by_last : (last : Activity) → p.last ≡ last → t.read ≡ activities.Idle
       → cond (not (may_wait q.session)) 1 0 + turns_left n q ≤ turns_left n p + turns_a_line n * (t.mid.outstanding - p.session.outstanding)
-  by_last activities.Idle idle none_read = absurd (reads_some p q t some_slot idle none_read)
+  by_last activities.Idle idle none_read = absurd (reads_some p q t idle none_read)
   by_last activities.Busy busy none_read =
       omega (arith, went (t.has_gone_on none_read), before t.mid.read_end refl busy (t.taken.none none_read))
 
@@ -305,24 +323,67 @@ module _ (n : ℕ) (p q : LoopView) (t : Turn p q) (some_slot : 0 < p.session.re
 
 -- ---- any number of turns
 
-pub turns_pay : (n slots : ℕ) (m : LoopView) (later : List LoopView) (turns : AreTurns m later) → AllByRecursion (IsBounded n slots) (m ∷ later)
+-- the same for any number that is how many pieces an image has
+pay : (n : ℕ) (m : LoopView) (later : List LoopView) (turns : AreTurns m later) → n ≡ pieces m
     → busy_turns later ≤ turns_left n m + turns_a_line n * lines_read m later turns
-turns_pay n slots m [] turns within = omega arith
-turns_pay n slots m (q ∷ rest) turns within =
+pay n m [] turns is = omega arith
+pay n m (q ∷ rest) turns is =
+    let read = turns.0.outstanding - m.session.outstanding in
+    let first = subst (λ (k : ℕ). cond (not (may_wait q.session)) 1 0 + turns_left k q ≤ turns_left k m + turns_a_line k * read) (sym is) turns.0.pays in
     omega (
       arith,
       sum_by-cons (λ (m : LoopView). cond (not (may_wait m.session)) 1 0) q rest,
-      turn_pays n m q turns.0 within.0.some_slot within.1.0.pieces,
-      turns_pay n slots q rest turns.1 within.1,
+      first,
+      pay n q rest turns.1 (is ∙ sym (ap (λ (g : Geometry). piece_count g) turns.0.geometry)),
     )
 
-few_read : (n slots : ℕ) (m : LoopView) (later : List LoopView) (turns : AreTurns m later) → AllByRecursion (IsBounded n slots) (m ∷ later) → NoneIsSent m later turns
-    → lines_read m later turns + m.session.outstanding ≤ slots
-few_read n slots m [] turns within none = omega (arith, within.0.bounded)
-few_read n slots m (q ∷ rest) turns within none = omega (arith, turns.0.taken.more, none.0, few_read n slots q rest turns.1 within.1 none.1)
+pub turns_pay : (m : LoopView) (later : List LoopView) (turns : AreTurns m later)
+    → busy_turns later ≤ turns_left (pieces m) m + turns_a_line (pieces m) * lines_read m later turns
+turns_pay m later turns = pay (pieces m) m later turns refl
 
-pub few_turns_unsent : (n slots : ℕ) (m : LoopView) (later : List LoopView) (turns : AreTurns m later) → AllByRecursion (IsBounded n slots) (m ∷ later)
-    → NoneIsSent m later turns → busy_turns later ≤ turns_left n m + turns_a_line n * slots
-few_turns_unsent n slots m later turns within none =
-    let few : lines_read m later turns ≤ slots = omega (arith, few_read n slots m later turns within none) in
-    omega (arith, turns_pay n slots m later turns within, mul-le-mul_left (turns_a_line n) few)
+-- what was outstanding and what was read is sent or is still outstanding
+balance : (m : LoopView) (later : List LoopView) (turns : AreTurns m later) → m.session.outstanding ≤ slots m
+    → lines_read m later turns + m.session.outstanding ≤ lines_sent m later turns + slots m
+balance m [] turns few = omega (arith, few)
+balance m (q ∷ rest) turns few =
+    let same = turns.0.slots_kept in
+    let within = turns.0.bounds.few_lines in
+    omega (arith, turns.0.more, same, balance q rest turns.1 within)
+
+few_read : (m : LoopView) (later : List LoopView) (turns : AreTurns m later) → lines_read m later turns ≤ lines_sent m later turns + slots m
+few_read m [] turns = omega arith
+few_read m (q ∷ rest) turns =
+    let same = turns.0.slots_kept in
+    let within = turns.0.bounds.few_lines in
+    omega (arith, turns.0.more, same, within, balance q rest turns.1 within)
+
+pub turns_pay_by_answers : (m : LoopView) (later : List LoopView) (turns : AreTurns m later)
+    → busy_turns later ≤ turns_left (pieces m) m + turns_a_line (pieces m) * (lines_sent m later turns + slots m)
+turns_pay_by_answers m later turns =
+    omega (arith, turns_pay m later turns, mul-le-mul_left (turns_a_line (pieces m)) (few_read m later turns))
+
+few_left : (n : ℕ) (m : LoopView) → points_left m.session.core.pieces_left ≤ n + 1 → turns_left n m < turns_a_step n * (steps_ahead m.session + 1)
+few_left n m few = omega (
+  arith,
+  few,
+  at_most (is_counted m.session) (n + 2),
+  at_most (m.session.core.room == 0) (n + 2),
+  at_most (is_none m.session.read_end) 2,
+  at_most_else (can_read m.session) 1,
+  at_most (is_busy m.last) 1,
+)
+
+module _ (m : LoopView) (later : List LoopView) (turns : AreTurns m later) (bounds : IsInBounds m.session) where
+  -- While one of the lines that were outstanding isn't answered, only so many turns wait for no worker.
+  pub few_turns_an_answer : lines_sent m later turns < m.session.outstanding → busy_turns later < turns_an_answer (pieces m) (slots m)
+  few_turns_an_answer unsent =
+      let within = bounds.few_lines in
+      let steps : steps_ahead m.session ≤ 5 * slots m = omega (arith, bounds.few_steps, within) in
+      let sent : lines_sent m later turns ≤ slots m = omega (arith, unsent, within) in
+      omega (
+        arith,
+        turns_pay_by_answers m later turns,
+        few_left (pieces m) m bounds.few_pieces,
+        mul-le-mul_left (turns_a_step (pieces m)) steps,
+        mul-le-mul_left (turns_a_line (pieces m)) sent,
+      )

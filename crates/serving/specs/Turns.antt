@@ -1,66 +1,38 @@
 -- Statement for engineers: The turns of a server's loop, how much is left to do between two of them, and how few there are for each line.
-use Rattle.std.specs.Prelude.{◌≡◌, ◌≢◌, ◌==◌, ◌<◌, ◌≤◌, ◌+◌, ◌-◌, ◌*◌, ◌&&◌, ℕ, Bool, true, false, not, nat_le, nat_lt, cond, List, [], ◌∷◌, length, count_by, Some, None, is_none, is_some}
+use Rattle.std.specs.Prelude.{◌≡◌, ◌==◌, ◌<◌, ◌≤◌, ◌+◌, ◌-◌, ◌*◌, ◌&&◌, ℕ, Bool, true, false, not, nat_le, nat_lt, cond, List, [], ◌∷◌, length, count_by, Some, None, is_none, is_some}
 use Rattle.std.specs.List.{list_any}
 use Rattle.histories.specs.Progress.{points_left}
-use Rattle.serving.specs.Session.{SessionView, CanReadLine, steps_ahead}
-use Rattle.serving.specs.SessionSteps.{HasGoneOn, HasTakenLines, IsResting}
-use Rattle.serving.specs.declared.event_loop.Turned.{Turned}
-use Rattle.serving.specs.declared.event_loop.Turned.TheVariants as turned
+use Rattle.image.specs.Pieces.{piece_count}
+use Rattle.serving.specs.Session.{NoneUnanswered, SessionView, steps_ahead}
 use Rattle.serving.specs.declared.session.Activity.{Activity}
 use Rattle.serving.specs.declared.session.Activity.TheVariants as activities
+use Rattle.serving.specs.declared.turns.Turned.{Turned}
+use Rattle.serving.specs.declared.turns.Turned.TheVariants as turned
 
--- ---- a turn
+-- ---- a moment between two turns
 
--- what is seen of the loop between two turns: the session, and what the last turn did (after an idle one the next may wait for input)
+-- what is seen of the loop between two turns: the session, and what the last turn did (after an idle one the next waits for input)
 pub record LoopView : Type 0 where
   pub session : SessionView
   pub last : Activity
 
--- One turn without a fault, after which the loop goes on: lines are read, and then what can be done is done.
-pub record Turn (old new : LoopView) : Type 0 where
-  pub rested : old.last ≡ activities.Idle → IsResting old.session
-  -- `read_more` leaves this session, and says whether it read a line
-  pub mid : SessionView
-  pub read : Activity
-  pub taken : HasTakenLines old.session mid read
-  pub waited : old.last ≡ activities.Idle → read ≡ activities.Idle → 0 < mid.reorder_buffer.slots → mid.read_end ≢ None
-  pub all_read : CanReadLine mid → ⊥
-  -- `ended` gives no reason to end the loop
-  pub goes_on : mid.reorder_buffer.lines ≡ [] → mid.core.pieces_left ≡ None → mid.read_end ≡ None
-  -- `advance` leaves the session of `new`
-  pub read_end : new.session.read_end ≡ mid.read_end
-  pub idle : new.last ≡ activities.Idle → IsResting new.session
-  pub steps : steps_ahead new.session ≤ steps_ahead mid
-  pub has_gone_on : read ≡ activities.Idle → HasGoneOn mid new.session new.last
+-- how many pieces an image has
+abbrev pub pieces : LoopView → ℕ
+pieces m = piece_count m.session.core.geometry
 
--- what a turn has come to: the loop goes on, or no more is read and each line is retired, so that it ends
-abbrev pub IsTurned : SessionView → Activity → SessionView → Turned → Type 0
-IsTurned old last new (turned.Went now) = Turn (record { session = old; last = last }) (record { session = new; last = now })
-IsTurned old last new (turned.Ends read_end) =
-    (new.read_end ≡ Some read_end) × (new.reorder_buffer.lines ≡ []) × (new.core.pieces_left ≡ None)
+-- how many lines may be outstanding
+abbrev pub slots : LoopView → ℕ
+slots m = m.session.reorder_buffer.slots
 
--- A line may be outstanding, and no more than so many (`slots`) are; and a checkpoint in progress has at most n pieces left.
-pub record IsBounded (n slots : ℕ) (m : LoopView) : Type 0 where
-  pub some_slot : 0 < m.session.reorder_buffer.slots
-  pub bounded : m.session.outstanding ≤ slots
-  pub pieces : points_left m.session.core.pieces_left ≤ n + 1
+-- What a session keeps between two turns.
+pub record IsInBounds (p : SessionView) : Type 0 where
+  pub few_lines : p.outstanding ≤ p.reorder_buffer.slots
+  -- the message of each line takes at most five steps
+  pub few_steps : steps_ahead p ≤ 5 * p.outstanding
+  -- a checkpoint in progress has at most as many pieces left as an image has
+  pub few_pieces : points_left p.core.pieces_left ≤ piece_count p.core.geometry + 1
 
--- The turns from one moment through the others, in order.
-abbrev pub AreTurns : LoopView → List LoopView → Type 0
-AreTurns m [] = Unit {0}
-AreTurns m (later ∷ rest) = Turn m later × AreTurns later rest
-
--- how many lines are read in these turns
-abbrev pub lines_read : (m : LoopView) (later : List LoopView) → AreTurns m later → ℕ
-lines_read m [] turns = 0
-lines_read m (later ∷ rest) turns = (turns.0.mid.outstanding - m.session.outstanding) + lines_read later rest turns.1
-
--- No answer is sent in these turns: the lines that are outstanding stay so.
-abbrev pub NoneIsSent : (m : LoopView) (later : List LoopView) → AreTurns m later → Type 0
-NoneIsSent m [] turns = Unit {0}
-NoneIsSent m (later ∷ rest) turns = (turns.0.mid.outstanding ≤ later.session.outstanding) × NoneIsSent later rest turns.1
-
--- ---- turns that end without a wait
+-- ---- whether a turn may have waited
 
 -- whether a line can be read (`CanReadLine`)
 abbrev pub can_read : SessionView → Bool
@@ -71,15 +43,11 @@ can_read p = is_none p.read_end && (nat_lt p.outstanding p.reorder_buffer.slots 
 abbrev pub may_wait : SessionView → Bool
 may_wait p = list_any is_some p.dispatch_seat.lent && ((length p.reply_buffer == 0) && not (can_read p))
 
--- how many of the turns that end at these moments have waited for no worker
-abbrev pub busy_turns : List LoopView → ℕ
-busy_turns moments = count_by (λ m. not (may_wait m.session)) moments
-
 -- ---- how much is left to do
 
 -- whether as many records are counted as a checkpoint is due by
 abbrev pub is_counted : SessionView → Bool
-is_counted p = not (p.trigger.every == 0) && nat_le p.trigger.every p.trigger.logged_since
+is_counted p = not (p.trigger.every == 0) && nat_le p.trigger.every p.trigger.answered_since
 
 abbrev pub is_busy : Activity → Bool
 is_busy activities.Busy = true
@@ -99,3 +67,51 @@ abbrev pub turns_left : ℕ → LoopView → ℕ
 turns_left n m = turns_a_step n * steps_ahead m.session + points_left m.session.core.pieces_left + cond (is_counted m.session) (n + 2) 0
     + cond (m.session.core.room == 0) (n + 2) 0 + (cond (is_none m.session.read_end) 2 0 + cond (can_read m.session) 0 1)
     + cond (is_busy m.last) 1 0
+
+-- ---- a turn
+
+-- One turn without a fault, after which the loop goes on: lines are read, and then what can be done is done.
+pub record Turn (old new : LoopView) : Type 0 where
+  -- so many lines are outstanding once lines were read
+  pub outstanding : ℕ
+  pub more : old.session.outstanding ≤ outstanding
+  -- After a turn that did nothing no line is unanswered, and the next one has read a line.
+  pub idle : old.last ≡ activities.Idle → NoneUnanswered old.session × (old.session.outstanding < outstanding)
+  pub rests : new.last ≡ activities.Idle → NoneUnanswered new.session × (new.session.core.pieces_left ≡ None)
+  -- It may have waited for a worker, or less is left to do, but for the lines that were read.
+  pub pays : cond (not (may_wait new.session)) 1 0 + turns_left (pieces old) new
+      ≤ turns_left (pieces old) old + turns_a_line (pieces old) * (outstanding - old.session.outstanding)
+  pub bounds : IsInBounds new.session
+  pub geometry : new.session.core.geometry ≡ old.session.core.geometry
+  pub slots_kept : slots new ≡ slots old
+
+-- what a turn has come to: the loop goes on, or no more is read and each line is retired, so that it ends
+abbrev pub IsTurned : SessionView → Activity → SessionView → Turned → Type 0
+IsTurned old last new (turned.Went told) = Turn (record { session = old; last = last }) (record { session = new; last = told.last })
+IsTurned old last new (turned.Ends read_end) =
+    (new.read_end ≡ Some read_end) × (new.reorder_buffer.lines ≡ []) × (new.core.pieces_left ≡ None)
+
+-- ---- any number of turns
+
+-- The turns from one moment through the others, in order.
+abbrev pub AreTurns : LoopView → List LoopView → Type 0
+AreTurns m [] = Unit {0}
+AreTurns m (later ∷ rest) = Turn m later × AreTurns later rest
+
+-- how many lines are read in these turns
+abbrev pub lines_read : (m : LoopView) (later : List LoopView) → AreTurns m later → ℕ
+lines_read m [] turns = 0
+lines_read m (later ∷ rest) turns = (turns.0.outstanding - m.session.outstanding) + lines_read later rest turns.1
+
+-- for how many lines the answer is sent in these turns
+abbrev pub lines_sent : (m : LoopView) (later : List LoopView) → AreTurns m later → ℕ
+lines_sent m [] turns = 0
+lines_sent m (later ∷ rest) turns = (turns.0.outstanding - later.session.outstanding) + lines_sent later rest turns.1
+
+-- how many of the turns that end at these moments have waited for no worker
+abbrev pub busy_turns : List LoopView → ℕ
+busy_turns moments = count_by (λ m. not (may_wait m.session)) moments
+
+-- how many turns that wait for no worker a line may wait for its answer, where an image has n pieces and so many lines may be outstanding
+abbrev pub turns_an_answer : ℕ → ℕ → ℕ
+turns_an_answer n lines = turns_a_step n * (17 * lines + 1)

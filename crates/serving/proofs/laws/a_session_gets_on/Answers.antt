@@ -1,12 +1,15 @@
 -- The lemmas on turns.
-use Rattle.serving.proofs.TurnsLeft.{few_turns_unsent, idle_reads, turns_pay}
+use Rattle.serving.proofs.TurnsLeft.{few_turns_an_answer, turns_pay, turns_pay_by_answers}
 use Rattle.serving.proofs.laws.a_session_gets_on.Goals as goal
 
 pub returns-clause-turns : goal.returns-clause-turns
 returns-clause-turns g = turns_pay
 
-pub returns-clause-unsent : goal.returns-clause-unsent
-returns-clause-unsent g = few_turns_unsent
+pub returns-clause-sent : goal.returns-clause-sent
+returns-clause-sent g = turns_pay_by_answers
+
+pub returns-clause-answered : goal.returns-clause-answered
+returns-clause-answered g = few_turns_an_answer
 
 pub returns-clause-idle : goal.returns-clause-idle
-returns-clause-idle g old new turn some_slot idle = ((turn.rested idle).0, idle_reads old new turn some_slot idle)
+returns-clause-idle g old new turn idle = turn.idle idle
