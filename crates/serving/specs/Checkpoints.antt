@@ -1,4 +1,4 @@
--- Statement for engineers: When a checkpoint is due.
+-- Inner: When a checkpoint is due.
 use Rattle.std.specs.Prelude.{◌≡◌, ◌≢◌, ◌+◌, ◌-◌, ◌^◌, ◌≤◌, ℕ, Option, None, min}
 use Rattle.protocol.specs.declared.replies.Reply.{Reply}
 use Rattle.protocol.specs.declared.replies.Reply.TheVariants as replies
@@ -9,9 +9,9 @@ use Rattle.serving.specs.declared.checkpoints.CheckpointTrigger.{CheckpointTrigg
 pub record IsDue (trigger : CheckpointTrigger) (pieces_left : Option ℕ) : Type 0 where
   pub none : pieces_left ≡ None
   pub by_count : trigger.every ≢ 0
-  pub enough : trigger.every ≤ trigger.logged_since
+  pub enough : trigger.every ≤ trigger.answered_since
 
 -- the trigger after a message with this reply: a change that was carried out has a record in the log, and is counted; the count saturates
 abbrev pub trigger_after : CheckpointTrigger → Reply → CheckpointTrigger
-trigger_after trigger replies.Done = record trigger { logged_since = min (trigger.logged_since + 1) (2 ^ 64 - 1) }
+trigger_after trigger replies.Done = record trigger { answered_since = min (trigger.answered_since + 1) (2 ^ 64 - 1) }
 trigger_after trigger _ = trigger

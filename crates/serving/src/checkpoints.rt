@@ -22,17 +22,17 @@ pub(crate) struct CheckpointTrigger {
     /// After how many records a checkpoint is due; 0: none is due by their count.
     every: u64,
     /// Of the messages answered since the last checkpoint began: how many have a record in the log.
-    logged_since: u64,
+    answered_since: u64,
 }
 
 impl CheckpointTrigger {
     /// A trigger that has counted nothing yet.
     pub(crate) fn new(every: u64) -> CheckpointTrigger
-        ensures { (result.every ≡ every) × (result.logged_since ≡ 0) }
+        ensures { (result.every ≡ every) × (result.answered_since ≡ 0) }
     {
         CheckpointTrigger {
             every,
-            logged_since: 0,
+            answered_since: 0,
         }
     }
 
@@ -41,22 +41,22 @@ impl CheckpointTrigger {
         ensures { self.new ≡ trigger_after self.old reply.now }
     {
         if matches!(reply, Reply::Done) {
-            self.logged_since = self.logged_since.saturating_add(1);
+            self.answered_since = self.answered_since.saturating_add(1);
         }
     }
 
     /// How many records were logged since the last checkpoint began, of those whose messages are answered.
-    pub(crate) fn logged_since(&self) -> u64
-        ensures { result ≡ self.now.logged_since }
+    pub(crate) fn answered_since(&self) -> u64
+        ensures { result ≡ self.now.answered_since }
     {
-        self.logged_since
+        self.answered_since
     }
 
     /// A checkpoint has begun: the count starts anew.
     fn restart(&mut self)
-        ensures { (self.new.every ≡ self.old.every) × (self.new.logged_since ≡ 0) }
+        ensures { (self.new.every ≡ self.old.every) × (self.new.answered_since ≡ 0) }
     {
-        self.logged_since = 0;
+        self.answered_since = 0;
     }
 
     /// Whether a checkpoint is due by the record count. None is due while one is in progress (`pieces_left` is its number of unwritten
@@ -64,7 +64,7 @@ impl CheckpointTrigger {
     pub(crate) fn is_due(&self, pieces_left: Option<usize>) -> bool
         ensures { IsTrue result ↔ IsDue self.now pieces_left }
     {
-        pieces_left.is_none() && self.every != 0 && self.logged_since >= self.every
+        pieces_left.is_none() && self.every != 0 && self.answered_since >= self.every
     }
 }
 
