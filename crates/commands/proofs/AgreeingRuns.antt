@@ -3,7 +3,7 @@ use Rattle.std.proofs.Common.{◌≡◌, ℕ, zero, suc, Bool, true, List, [], �
 use Rattle.protocol.specs.Lines.{lines}
 use Rattle.meaning.specs.Output.{joined}
 use Rattle.meaning.specs.ClosedPart.{IsPartOf}
-use Rattle.commands.specs.AnyRuns.{AreAnsweredBy, Operation, Run, Server, Serves, after, answers_in, lines_in}
+use Rattle.serving.specs.AnyRuns.{AreAnsweredBy, Operation, Run, Server, Serves, after, answers_in, lines_in}
 
 -- what a server answers to some lines
 abbrev answers_of : Server → List (List ℕ) → List (List ℕ)

@@ -1,6 +1,6 @@
 -- What any number of runs did is what one serial server does: an induction over the runs.
 use Rattle.std.proofs.Common.{◌≡◌, ℕ, List, [], ◌∷◌, ◌++◌, Option, Some, Bool, refl}
-use Rattle.commands.specs.AnyRuns.{AreAnsweredBy, EachServes, IsHistoryOf, Operation, Run, Server, after, lines_in}
+use Rattle.serving.specs.AnyRuns.{AreAnsweredBy, EachServes, IsHistoryOf, Operation, Run, Server, after, lines_in}
 
 -- A server does these, and then, as it is after them, those.
 pub answered-append : (server : Server) (os ps : List Operation) → AreAnsweredBy server os → AreAnsweredBy (after (lines_in os) server) ps

@@ -18,8 +18,8 @@ use Rattle.device_map.specs.Layout.{image_size}
 use Rattle.commands.proofs.SerialServer.{answers_are}
 use Rattle.commands.specs.Lines.{formatted_line, shown_lines}
 use Rattle.commands.specs.Promise.{HasRunFrom}
-use Rattle.commands.specs.AnyRuns.{AreAnsweredBy, Did, IsHistoryOf, Operation, Run, answers_in, lines_in}
-use Rattle.commands.specs.SerialServer.{server_in}
+use Rattle.serving.specs.AnyRuns.{AreAnsweredBy, Did, IsHistoryOf, Operation, Run, answers_in, lines_in}
+use Rattle.serving.specs.SerialServer.{server_in}
 use Rattle.commands.specs.Services.{AsksServe, within_limits}
 use Rattle.commands.specs.declared.faults.Fault.TheVariants.{Write}
 use Rattle.meaning.specs.ClosedPart.{IsClosedPart, are_in_conflict}

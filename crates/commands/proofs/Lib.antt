@@ -3,7 +3,6 @@ mod ShownText
 mod ServedDevice
 mod Acknowledged
 mod Promise
-mod Served
 mod SendsAgain
 mod AnyRuns
 mod KeepsPromise

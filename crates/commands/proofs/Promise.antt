@@ -1,7 +1,6 @@
 -- From what a service on a device has done follows the state from which a restart goes on.
 use Rattle.std.proofs.Common.{◌≡◌, ◌⊎◌, ◌≤◌, ℕ, List, [], Option, Some, None, ap, refl, sym, ◌∙◌, subst, inl, inr, ⊎_elim, arith}
-use Rattle.std.specs.Prelude.{Result, Ok, Err, OnOk}
-use Rattle.std.specs.Io.KnownBytes.{Appends}
+use Rattle.std.specs.Prelude.{IfSome, Result, Ok, Err, OnOk}
 use Rattle.std.proofs.KnownBytes.{Appends-nil}
 use Rattle.std.proofs.lemmas.Option.{same_Some}
 use Rattle.affinity.specs.declared.geometry.Geometry.{Geometry}
@@ -15,20 +14,20 @@ use Rattle.disk.proofs.CrashImagesAre.{counts_now}
 use Rattle.disk.specs.CrashImages.{AreBytes, IsCrashImage, left_since}
 use Rattle.disk.specs.Device.{IsSynced, Medium, moment_number}
 use Rattle.checkpoint.specs.Opening.{IsPastSync, OpeningCrashImages, RecoversAsBefore}
-use Rattle.meaning.specs.Output.{WritesOutput, serial_output}
+use Rattle.protocol.specs.Lines.{lines}
+use Rattle.meaning.specs.Output.{WritesOutput, serial_output, state_after_lines}
+use Rattle.serving.specs.Ends.{AreServed}
 use Rattle.meaning.specs.State.{State}
 use Rattle.scheduler.proofs.Refusals.{recovers_or_refused}
 use Rattle.scheduler.specs.OpenFaults.{IsShownByBytes}
 use Rattle.serving.proofs.RecoversWritten.{none_written, bytes_recover}
-use Rattle.serving.proofs.MaySend.{recovers_killed}
-use Rattle.serving.specs.Restart.{RecoversTo, BytesRecover, RecoversWritten}
+use Rattle.serving.specs.Restart.{RecoversTo, BytesRecover}
 use Rattle.serving.specs.declared.server.ServeFault.{ServeFault}
 use Rattle.commands.proofs.Acknowledged.{all_then, keeps_acknowledged}
 use Rattle.serving.specs.Exchange.{Exchange}
 use Rattle.commands.specs.Faults.{command_result}
 use Rattle.commands.specs.Acknowledged.{HoldsAcknowledged}
-use Rattle.commands.specs.Kill.{IsKilled, WhileOpening, WhileServing}
-use Rattle.commands.specs.Promise.{HasRunFrom, HoldsOfAll, HoldsRecovered, LeavesKilled, LeavesRun, IsWritten, OpensUnlessFailed}
+use Rattle.commands.specs.Promise.{HasRunFrom, HoldsOfAll, HoldsRecovered, LeavesRun, IsWritten, OpensUnlessFailed}
 use Rattle.commands.specs.ServedDevice.{EndsOnDevice, CrashesSafely, HasServedBy, RecoveredTo}
 use Rattle.commands.specs.declared.faults.Fault.{Fault}
 use Rattle.commands.specs.declared.faults.Fault.TheVariants as ends
@@ -48,7 +47,7 @@ leaves_recovered {s} end {x} h = all_then (command_result end) s.slots x.before 
 -- ---- two incarnations
 
 -- A device that recovers to this state was opened with this geometry, and from this state.
-opened_so : {keeps : Type 0} (keep : keeps) {g h : Geometry} {x y : State} {old : Medium} → recovered_state g old.now ≡ Some x → RecoveredTo keeps old h y → (h ≡ g) × (y ≡ x)
+pub opened_so : {keeps : Type 0} (keep : keeps) {g h : Geometry} {x y : State} {old : Medium} → recovered_state g old.now ≡ Some x → RecoveredTo keeps old h y → (h ≡ g) × (y ≡ x)
 opened_so keep {g} {h} {x} {old} recovers recovered_before =
     let same : h ≡ g = one_geometry h g old.now (recovered_before.header keep) x recovers in
     (same, same_Some _ _ (sym (recovered_before.recovered_before keep) ∙ ap (λ (k : Geometry). recovered_state k old.now) same ∙ recovers))
@@ -68,14 +67,28 @@ module _ {keeps : Type 0} (keep : keeps) (g : Geometry) {x : State} (old : Mediu
       written_so streams.input streams.before streams.written _ _
       (λ bytes out served. served.output ∙ (λ i. serial_output (own.0 i) (own.1 i) bytes)) h.1.3
 
+  -- Whatever a crash leaves then recovers to the state after all of it.
+  pub ends_so : (s : ServeOptions) (new : Medium) (end : Result (Unit {0}) Fault) (streams : Exchange) → EndsOnDevice keeps s old new end streams
+      → (c : List ℕ) → IsCrashImage new c → OnOk end (IfSome streams.input (λ bytes. recovered_state g c ≡ Some (state_after_lines g x (lines bytes))))
+  ends_so s new (Err fault) streams h c leaves = tt
+  ends_so s new (Ok done) streams h c leaves = all_of streams.input h.1.3
+    where
+      all_of : (input : Option (List ℕ)) → WritesOutput input streams.before streams.written (λ bytes out. AreServed h.1.0.geometry h.1.0.start h.1.0.end (lines bytes) out)
+          → IfSome input (λ bytes. recovered_state g c ≡ Some (state_after_lines g x (lines bytes)))
+      all_of None served = tt
+      all_of (Some bytes) served =
+          let own = opened_so keep recovers h.1.0.before in
+          ap (λ (k : Geometry). recovered_state k c) (sym own.0) ∙ h.1.0.after.each keep c leaves
+          ∙ ap (λ (y : State). Some y) (served.2.state ∙ (λ i. state_after_lines (own.0 i) (own.1 i) (lines bytes)))
+
 -- Of the end of a service: the device could not be opened; or P holds of all that was to be written.
-opened_or : (P : ℕ → Option (List ℕ) → Type 0) (end : Result (Unit {0}) Fault) (slots : ℕ) (before written : Option (List ℕ)) → HoldsOfAll end slots before written P
+pub opened_or : (P : ℕ → Option (List ℕ) → Type 0) (end : Result (Unit {0}) Fault) (slots : ℕ) (before written : Option (List ℕ)) → HoldsOfAll end slots before written P
     → ((fault : OpenFault) × (end ≡ Err (ends.Open fault))) ⊎ ((left : ℕ) × (all : Option (List ℕ)) × IsWritten end slots left before written all × P left all)
 opened_or P (Err (ends.Open fault)) slots before written h = inl (fault, refl)
 opened_or P end slots before written h = inr h
 
 -- A crash at any moment while the device is opened leaves what recovers to the same state.
-crashed_since : (g : Geometry) (old new : Medium) {x : State} → recovered_state g old.now ≡ Some x → IsSynced old → (c : List ℕ)
+pub crashed_since : (g : Geometry) (old new : Medium) {x : State} → recovered_state g old.now ≡ Some x → IsSynced old → (c : List ℕ)
     → left_since new (moment_number old) c → OpeningCrashImages old new → recovered_state g c ≡ Some x
 crashed_since g old new {x} made synced c since h =
     ⊎_elim (λ (was : IsCrashImage old c). ap (recovered_state g) (synced_left old c synced was) ∙ made) (λ (k : RecoversAsBefore old.now c). k.same g x made)
@@ -86,7 +99,7 @@ crashed_since g old new {x} made synced c since h =
     (past.later.before (moment_number old) c h.first.later since)) h.rest)
 
 -- Where nothing was written, bytes that recover to the state of the start are as they may be.
-silent : {g : Geometry} (slots : ℕ) {x : State} (input before written : Option (List ℕ)) (c : List ℕ) → recovered_state g c ≡ Some x → written ≡ before
+pub silent : {g : Geometry} (slots : ℕ) {x : State} (input before written : Option (List ℕ)) (c : List ℕ) → recovered_state g c ≡ Some x → written ≡ before
     → BytesRecover g slots x input before written c
 silent {g} slots {x} input before written c recovers unwritten = record { now = x; holds_now = recovers; recovers = so input }
   where
@@ -150,41 +163,3 @@ module _ {keeps : Type 0} (s : ServeOptions) (old new : Medium) (end : Result (U
     opens_so keep g s old new end streams bytes is.0 e,
     λ c leaves. run_so keep g old new is.0 is.1 c leaves s end streams e safe recovers,
   )
-
--- What follows a run may be put in other words.
-pub then_so : {g : Geometry} {slots : ℕ} {start : State} {end : Result (Unit {0}) Fault} {input before after : Option (List ℕ)} {P Q : State → Type 0}
-    → ((now : State) → P now → Q now) → HasRunFrom g slots start end input before after P → HasRunFrom g slots start end input before after Q
-then_so f h = record { now = h.now; unanswered = h.unanswered; all = h.all; written = h.written; recovers = h.recovers; all_answered = h.all_answered; goes_on = f h.now h.goes_on }
-
--- ---- a service that was killed
-
--- What a crash leaves of one whose output holds so much is as where its output had failed.
-left_written : (g : Geometry) (slots : ℕ) (x : State) (input before after : Option (List ℕ)) (c : List ℕ) → RecoversWritten g slots x input before after c
-    → HasRunFrom g slots x (Err ends.Write) input before after (λ now. recovered_state g c ≡ Some now)
-left_written g slots x input before after c w = record {
-  now = w.3.now;
-  unanswered = w.0;
-  all = w.1;
-  written = w.2;
-  recovers = w.3.recovers;
-  all_answered = tt;
-  goes_on = w.3.holds_now;
-}
-
--- The same in equal terms.
-written_as : {h g : Geometry} → h ≡ g → {n slots : ℕ} → n ≡ slots → {y x : State} → y ≡ x → {i input : Option (List ℕ)} → i ≡ input
-    → {b before : Option (List ℕ)} → b ≡ before → (after : Option (List ℕ)) (c : List ℕ) → RecoversWritten h n y i b after c
-    → RecoversWritten g slots x input before after c
-written_as geometry slots_are start input_is before_is after c w = rw (geometry, slots_are, start, input_is, before_is) at w
-
-module _ {keeps : Type 0} (slots : ℕ) (old : Medium) (input before after : Option (List ℕ)) (c : List ℕ) where
-  pub killed_so : IsKilled keeps slots old input before after c → keeps → (g : Geometry) → LeavesKilled g (recovered_state g) slots old input before after c
-  killed_so (WhileOpening new opening left unwritten) keep g x is =
-      let same = crashed_since g old new is.0 is.1 c left (opening keep) in
-      let begun : Appends before after [] = rw unwritten (Appends-nil before) in
-      left_written g slots x input before after c
-      (slots, before, ([], Appends-nil before, ([], [], refl, begun), omega arith), silent slots input before before c same refl)
-  killed_so (WhileServing s opened input_is before_is killed) keep g x is =
-      let own = opened_so keep is.0 opened.recovered_before in
-      left_written g slots x input before after c
-      (written_as own.0 opened.fresh.slots_are own.1 input_is before_is after c (recovers_killed s after c killed keep))

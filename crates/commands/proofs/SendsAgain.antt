@@ -15,10 +15,10 @@ use Rattle.meaning.specs.SendingAgain.{AreAccepted, AreTries, HaveSpace, Try, li
 use Rattle.meaning.specs.State.{IsState, State}
 use Rattle.meaning.specs.Step.{reply_to}
 use Rattle.serving.proofs.RecoversWritten.{none_there}
-use Rattle.commands.specs.AnyRuns.{AreAnsweredBy, EachServes, Operation, Run, Server, after, answers_in, lines_in}
+use Rattle.serving.specs.AnyRuns.{AreAnsweredBy, EachServes, Operation, Run, Server, after, answers_in, lines_in}
 use Rattle.commands.specs.SendsAgain.{SendsAgain, answers_out, last_device}
-use Rattle.commands.specs.SerialServer.{server_in}
-use Rattle.commands.proofs.KeepsPromise.{server_after}
+use Rattle.serving.specs.SerialServer.{server_in}
+use Rattle.serving.proofs.SerialServer.{server_after}
 use Rattle.commands.proofs.SerialServer.{answers_are}
 
 -- ---- closed parts

@@ -6,15 +6,14 @@ use Rattle.protocol.specs.Grammar.{message_of}
 use Rattle.protocol.specs.Messages.{is_in_range, path_of}
 use Rattle.protocol.specs.Replies.{reply_line}
 use Rattle.protocol.specs.declared.messages.Msg.{Msg}
-use Rattle.protocol.specs.declared.replies.Reply.{Reply}
 use Rattle.meaning.proofs.Commute.{commute}
 use Rattle.meaning.specs.Output.{answer_line, output_lines, state_after_line, state_after_lines}
 use Rattle.meaning.specs.State.{State}
 use Rattle.meaning.specs.Step.{reply_to, next_state}
 use Rattle.serving.proofs.HaveSerialReplies.{out_of_range}
 use Rattle.meaning.specs.ClosedPart.{are_in_conflict, are_related_lines}
-use Rattle.commands.specs.AnyRuns.{AreAnsweredBy, Operation, after, answers_in, lines_in}
-use Rattle.commands.specs.SerialServer.{server_in}
+use Rattle.serving.specs.AnyRuns.{AreAnsweredBy, Operation, after, answers_in, lines_in}
+use Rattle.serving.specs.SerialServer.{server_in}
 
 pub answers_are : (g : Geometry) (x : State) (os : List Operation) → AreAnsweredBy (server_in g x) os → answers_in os ≡ output_lines g x (lines_in os)
 answers_are g x [] h = refl
@@ -31,14 +30,14 @@ record MayChange (g : Geometry) (x : State) (m n : Option Msg) : Type 0 where
 module _ (g : Geometry) (x : State) (m n : Msg) where
   first_out : is_in_range g m ≡ false → MayChange g x (Some m) (Some n)
   first_out out = record {
-    answer = ap (λ (s : Reply × State). reply_line s.0) (out_of_range g (next_state g x n) m out ∙ sym (ap (λ (s : Reply × State). (s.0, next_state g x n)) (out_of_range g x m out)));
-    state = ap (λ (y : State). next_state g y n) (ap (λ (s : Reply × State). s.1) (out_of_range g x m out)) ∙ sym (ap (λ (s : Reply × State). s.1) (out_of_range g (next_state g x n) m out));
+    answer = ap reply_line ((out_of_range g (next_state g x n) m out).0 ∙ sym (out_of_range g x m out).0);
+    state = ap (λ (y : State). next_state g y n) (out_of_range g x m out).1 ∙ sym (out_of_range g (next_state g x n) m out).1;
   }
 
   second_out : is_in_range g n ≡ false → MayChange g x (Some m) (Some n)
   second_out out = record {
-    answer = ap (λ (y : State). reply_line (reply_to g y m)) (ap (λ (s : Reply × State). s.1) (out_of_range g x n out));
-    state = ap (λ (s : Reply × State). s.1) (out_of_range g (next_state g x m) n out) ∙ sym (ap (λ (y : State). next_state g y m) (ap (λ (s : Reply × State). s.1) (out_of_range g x n out)));
+    answer = ap (λ (y : State). reply_line (reply_to g y m)) (out_of_range g x n out).1;
+    state = (out_of_range g (next_state g x m) n out).1 ∙ sym (ap (λ (y : State). next_state g y m) (out_of_range g x n out).1);
   }
 
   apart : are_related (path_of g m) (path_of g n) ≡ false → MayChange g x (Some m) (Some n)

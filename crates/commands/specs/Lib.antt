@@ -5,11 +5,7 @@ pub mod Ends
 pub mod ServedDevice
 pub mod Acknowledged
 pub mod Promise
-pub mod UntilCrash
 pub mod InFile
-pub mod Kill
-pub mod AnyRuns
-pub mod SerialServer
 pub mod SendsAgain
 pub mod Services
 pub mod Exits

@@ -1,4 +1,4 @@
--- Statement for clients: What a service promises its client over a crash: bytes in, bytes out.
+-- Statement for operators: What a service promises its client over a crash: bytes in, bytes out.
 use Rattle.std.specs.Prelude.{◌≡◌, ◌⊎◌, ℕ, List, Option, Some, Result, Err, OnOk}
 use Rattle.affinity.specs.declared.geometry.Geometry.{Geometry}
 use Rattle.recovery.specs.Recovery.{recovered_state}
@@ -33,8 +33,7 @@ HoldsOfAll (Err (Open fault)) slots before after P = after ≡ before
 HoldsOfAll end slots before after P = (n : ℕ) × (all : Option (List ℕ)) × IsWritten end slots n before after all × P n all
 
 -- A server ran from the state `start` on one input and came to this end, and a crash left another state, of which `next` is true. However
--- it ended, what it wrote is the serial server's output for the first lines of its input. `next` says what happened afterwards. To speak of
--- several restarts, put one `HasRunFrom` into the `next` of another.
+-- it ended, what it wrote is the serial server's output for the first lines of its input. `next` says what is left of the device.
 pub record HasRunFrom (g : Geometry) (slots : ℕ) (start : State) (end : Result (Unit {0}) Fault)
     (input before after : Option (List ℕ)) (next : State → Type 0) : Type 0 where
   -- the state that the crash left
@@ -75,13 +74,6 @@ abbrev pub LeavesRun : Geometry → (List ℕ → Option State) → ℕ → Medi
 LeavesRun g recover slots old new end input before after = (start : State) → HoldsState recover old start
     → OpensUnlessFailed end
     × ((c : List ℕ) → IsCrashImage new c → HasRunFrom g slots start end input before after (λ now. recover c ≡ Some now))
-
--- The same of a server that was killed when its output held `after`, and of the bytes that a crash left then. It wrote a beginning of what
--- it was to write, as one whose output has failed: with the end `Write`.
-abbrev pub LeavesKilled : Geometry → (List ℕ → Option State) → ℕ → Medium
-    → Option (List ℕ) → Option (List ℕ) → Option (List ℕ) → List ℕ → Type 0
-LeavesKilled g recover slots old input before after bytes = (start : State) → HoldsState recover old start
-    → HasRunFrom g slots start (Err Write) input before after (λ now. recover bytes ≡ Some now)
 
 -- ---- all that is promised of a service on a device
 

@@ -1,7 +1,7 @@
 -- Statement for clients: A client of servers that crash, which sends the lines without an answer again to the next one.
 use Rattle.std.specs.Prelude.{◌≡◌, ℕ, ◌==◌, List, [], ◌∷◌, ◌++◌, count_by, drop}
 use Rattle.protocol.specs.Lines.{lines}
-use Rattle.commands.specs.AnyRuns.{Run}
+use Rattle.serving.specs.AnyRuns.{Run}
 
 -- how many answers came out of a run: so many newlines
 abbrev pub answers_out : Run → ℕ

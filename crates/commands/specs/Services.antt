@@ -9,7 +9,8 @@ use Rattle.affinity.specs.declared.limits.TheConstants.{MOST_SLOTS, MOST_WORKERS
 abbrev pub options_in_order : ServeOptions → List ℕ
 options_in_order s = s.workers ∷ s.slots ∷ s.every ∷ []
 
--- the numbers of a server's options, from those that the arguments give: at most 64 workers and 1 to 1024 slots, whatever they say
+-- the numbers of a server's options, from those that the arguments give: at most `MOST_WORKERS` workers and 1 to `MOST_SLOTS` slots,
+-- whatever they say
 abbrev pub within_limits : List ℕ → List ℕ
 within_limits (workers ∷ slots ∷ others) = min workers MOST_WORKERS ∷ max (min slots MOST_SLOTS) 1 ∷ others
 within_limits others = others

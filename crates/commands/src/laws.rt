@@ -1,32 +1,15 @@
-//! The theorem's laws: of a service that is killed, of any number of runs, of what lines mean, and of two runs.
-ghost use Rattle.std.specs.Prelude.{◌≡◌, Bool, true, false, ℕ, List, [], ◌∷◌, Option, Some};
+//! The theorem's laws: of any number of runs, of what lines mean, and of two runs.
+ghost use Rattle.std.specs.Prelude.{◌≡◌, ◌↔◌, Bool, true, false, ℕ, List, [], ◌∷◌, Option, Some};
 ghost use Rattle.affinity.specs.declared.geometry.Geometry.{Geometry};
-ghost use Rattle.recovery.specs.Recovery.{recovered_state};
+ghost use Rattle.protocol.specs.declared.messages.Msg.{Msg};
+ghost use Rattle.protocol.specs.Grammar.{message_of, Spells};
 ghost use Rattle.meaning.specs.ClosedPart.{are_in_conflict};
-ghost use Rattle.commands.specs.AnyRuns.{AreAnsweredBy, EachServes, IsHistoryOf, KeepsPromise, Operation, Run, Server, Serves, after, answers_in, lines_in};
-ghost use Rattle.commands.specs.Kill.{IsKilled};
-ghost use Rattle.commands.specs.SerialServer.{server_in, server_on};
-ghost use Rattle.commands.specs.Promise.{LeavesKilled};
-ghost use Rattle.disk.specs.Device.{Medium};
+ghost use Rattle.serving.specs.AnyRuns.{AreAnsweredBy, EachServes, IsHistoryOf, Operation, Run, Server, Serves, after, answers_in, lines_in};
+ghost use Rattle.serving.specs.SerialServer.{server_in};
 ghost use Rattle.commands.specs.SendsAgain.{SendsAgain, last_device};
 ghost use Rattle.meaning.specs.Output.{output_lines};
 ghost use Rattle.meaning.specs.SendingAgain.{AreAccepted, HaveSpace};
 ghost use Rattle.meaning.specs.State.{IsState, State};
-
-use disk::Disk;
-
-/// A killed service loses nothing that it answered, whenever it was killed: while it opened its device, or while it served. So it has kept
-/// the promise of a run (`promise`), and it left what one leaves whose output has failed (`leaves`). Between two sends the law applies the
-/// condition `safe` of a call, which says the same in other words, and is proved where the call is made. It does nothing; its contract is
-/// the law.
-pub fn a_killed_service_loses_nothing<D: Disk>()
-    ensures promise { (slots : ℕ) (old : Medium) (input before after : Option (List ℕ)) (c : List ℕ)
-        → IsKilled D.keeps slots old input before after c
-        → D.keeps → (g : Geometry) → KeepsPromise (server_on g) (are_in_conflict g) slots old input false before after c }
-    ensures leaves { (slots : ℕ) (old : Medium) (input before after : Option (List ℕ)) (c : List ℕ)
-        → IsKilled D.keeps slots old input before after c
-        → D.keeps → (g : Geometry) → LeavesKilled g (recovered_state g) slots old input before after c }
-{}
 
 /// Any number of runs on one device, each on what a crash of the one before left of it: all that they answered is what one serial server
 /// answers, which never crashes. The law holds whatever a serial server answers (`recover` says which server bytes hold), and whichever
@@ -37,10 +20,11 @@ pub fn runs_are_durably_linearizable()
         → (history : List Operation) × IsHistoryOf conflict runs history × AreAnsweredBy server history }
 {}
 
-/// What lines mean to the serial server that begins in a state. Its answers are what `waffd plain` writes, from that state on. Two lines
-/// that aren't in conflict may come in either order: each gets the same answer, and the server is the same after both. It does nothing; its
-/// contract is the law.
+/// What lines mean to the serial server that begins in a state. `Spells` says which message a line spells, so `message_of` needn't be read.
+/// The server's answers are what `waffd plain` writes, from that state on. Two lines that aren't in conflict may come in either order: each
+/// gets the same answer, and the server is the same after both. It does nothing; its contract is the law.
 pub fn what_lines_mean()
+    ensures messages { (line : List ℕ) (m : Msg) → (message_of line ≡ Some m) ↔ Spells line m }
     ensures answers { (g : Geometry) (x : State) (operations : List Operation)
         → AreAnsweredBy (server_in g x) operations → answers_in operations ≡ output_lines g x (lines_in operations) }
     ensures conflict { (g : Geometry) (x : State) (line other : List ℕ) → are_in_conflict g line other ≡ false

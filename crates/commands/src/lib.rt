@@ -3,7 +3,6 @@
 //! Only `program` and `reports` know the arguments: a command takes what it works on as values.
 #![tactic(auto)]
 
-mod again;
 mod faults;
 mod format;
 mod laws;
@@ -14,9 +13,7 @@ mod serial;
 mod serve;
 mod serve_options;
 mod show;
-mod stopped;
 
-pub use again::serve_again;
 pub use faults::Fault;
 pub use format::format_device;
 pub use program::command;
@@ -25,4 +22,3 @@ pub use serial::answer_input;
 pub use serve::{serve_device, serve_on};
 pub use serve_options::ServeOptions;
 pub use show::show_device;
-pub use stopped::serve_stopped;

@@ -26,8 +26,7 @@ use std::rt::Files;
 use std::sync::Wait;
 use std::thread::Threads;
 
-/// The options of `serve` with these numbers: workers, but 64 at most; slots, i.e. lines that may be outstanding, 1 to 1024; and after how
-/// many records a checkpoint is due.
+/// The options of `serve` with these numbers, within their limits.
 fn service_of(numbers: ServiceNumbers) -> ServeOptions
     ensures { options_in_order result ≡ within_limits (service_numbers numbers) }
 {

@@ -1,20 +1,23 @@
 //! `waffd serve`: the lines of the input, answered on the device in a file by workers that run messages at once.
-ghost use Rattle.std.specs.Prelude.{◌≡◌, ℕ, List};
+ghost use Rattle.std.specs.Prelude.{◌≡◌, ◌⊎◌, ℕ, false, List, Some, Err};
 ghost use Rattle.std.specs.Result.{is_ok};
 ghost use Rattle.affinity.specs.declared.geometry.Geometry.{Geometry};
-ghost use Rattle.checkpoint.specs.Opening.{OpeningCrashImages};
 ghost use Rattle.recovery.specs.Recovery.{recovered_state};
-ghost use Rattle.disk.specs.CrashImages.{IsCrashImage};
+ghost use Rattle.recovery.specs.declared.fault.OpenFault.{OpenFault};
+ghost use Rattle.recovery.specs.declared.fault.OpenFault.TheVariants as opening;
+ghost use Rattle.disk.specs.CrashImages.{IsCrashImage, left_since};
+ghost use Rattle.disk.specs.Device.{IsSynced, moment_number};
+ghost use Rattle.scheduler.specs.CoreView.{IsJustOpened};
 ghost use Rattle.serving.specs.Exchange.{exchange};
 ghost use Rattle.serving.specs.Serve.{ServePromise};
 ghost use Rattle.meaning.specs.ClosedPart.{are_in_conflict};
-ghost use Rattle.commands.specs.AnyRuns.{KeepsPromise};
-ghost use Rattle.commands.specs.SerialServer.{server_on};
+ghost use Rattle.serving.specs.AnyRuns.{KeepsPromise, Server};
+ghost use Rattle.serving.specs.SerialServer.{server_of, server_on};
 ghost use Rattle.commands.specs.Faults.{command_result};
+ghost use Rattle.commands.specs.declared.faults.Fault.TheVariants.{Open};
 ghost use Rattle.commands.specs.Acknowledged.{HoldsAcknowledged};
 ghost use Rattle.commands.specs.Promise.{HoldsOfAll, HoldsRecovered, LeavesRun};
 ghost use Rattle.commands.specs.InFile.{EndsInFile};
-ghost use Rattle.commands.specs.Kill.{HasOpened};
 ghost use Rattle.commands.specs.ServedDevice.{EndsOnDevice, CrashesSafely};
 
 use crate::faults::Fault;
@@ -41,8 +44,8 @@ fn command_result(end: Result<(), ServeFault>) -> Result<(), Fault>
     }
 }
 
-/// Serves with a core that was just opened, on the device as it is in `found`, and hands the core back. So however the service ends, and if
-/// it never does, it began in the state to which its device had recovered; meanwhile a crash left what `opening` says.
+/// Serves with a core that was just opened, on the device as it is in `found`, and hands the core back. If that device held a server, the
+/// core has it (`opened`). A run that was killed while it opened the device, and so had written nothing, has kept its promise (`opening`).
 fn run_opened<T: Threads + Wait + Sync, R: Read, W: Write, D: Disk + Drop>(
     rt: &T,
     alloc: Global,
@@ -52,8 +55,13 @@ fn run_opened<T: Threads + Wait + Sync, R: Read, W: Write, D: Disk + Drop>(
     r: &mut R,
     w: &mut W,
 ) -> (Core<D>, Result<(), ServeFault>)
-    requires opened { HasOpened D.keeps service.slots (D.medium found.value) core }
-    requires opening { D.keeps → OpeningCrashImages (D.medium found.value) core.medium }
+    requires opened { D.keeps → (g : Geometry) (server : Server) → server_on g (D.medium found.value).now ≡ Some server
+        → (core.geometry ≡ g) × (core.slots ≡ service.slots) × (server_of core ≡ server) }
+    requires opening { D.keeps → IsSynced (D.medium found.value) → (g : Geometry) (server : Server) (c : List ℕ)
+        → server_on g (D.medium found.value).now ≡ Some server → left_since core.medium (moment_number (D.medium found.value)) c
+        → KeepsPromise (server_on g) (are_in_conflict g) server service.slots (R.remaining r.old) false
+        (W.contents w.old) (W.contents w.old) c }
+    requires fresh { IsJustOpened service.slots core }
     ensures { ServePromise D.keeps service.workers core result
         (exchange (R.remaining r.old) (R.remaining r.new) (W.contents w.old) (W.contents w.new)) }
 {
@@ -90,9 +98,13 @@ pub fn serve_on<T: Threads + Wait + Sync, R: Read, W: Write, D: Disk + Drop>(
         (λ unanswered all. D.keeps → (c : List ℕ) → IsCrashImage (D.medium result.0) c
         → HoldsRecovered unanswered (D.medium disk) (R.remaining r.old) (W.contents w.old) all c) }
     // What a client relies on, for each end and for whatever a crash leaves then.
-    ensures promise { D.keeps → (g : Geometry) (c : List ℕ) → IsCrashImage (D.medium result.0) c
-        → KeepsPromise (server_on g) (are_in_conflict g) service.slots (D.medium disk) (R.remaining r.old) (is_ok result.1)
+    ensures promise { D.keeps → IsSynced (D.medium disk) → (g : Geometry) (server : Server) (c : List ℕ)
+        → server_on g (D.medium disk).now ≡ Some server → IsCrashImage (D.medium result.0) c
+        → KeepsPromise (server_on g) (are_in_conflict g) server service.slots (R.remaining r.old) (is_ok result.1)
         (W.contents w.old) (W.contents w.new) c }
+    // A device that holds a server is opened, unless a call of it fails or memory is wanting.
+    ensures opens { D.keeps → (g : Geometry) (server : Server) → server_on g (D.medium disk).now ≡ Some server
+        → (fault : OpenFault) → result.1 ≡ Err (Open fault) → (fault ≡ opening.Device) ⊎ (fault ≡ opening.OutOfMemory) }
     ensures goes_on { D.keeps → (g : Geometry) → LeavesRun g (recovered_state g) service.slots (D.medium disk) (D.medium result.0) result.1
         (R.remaining r.old) (W.contents w.old) (W.contents w.new) }
 {

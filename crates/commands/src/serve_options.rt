@@ -7,10 +7,10 @@ use affinity::limits::{MOST_SLOTS, MOST_WORKERS};
 /// The options of a server on a device.
 #[derive(Clone, Copy, Debug)]
 pub struct ServeOptions {
-    /// Threads that run messages, 0 to 64. With none of them nothing is served.
+    /// Threads that run messages, at most `MOST_WORKERS`. With none of them nothing is served.
     pub workers: u16,
 
-    /// How many lines may be outstanding: read, and the answer not sent. 1 to 1024.
+    /// How many lines may be outstanding: read, and the answer not sent. 1 to `MOST_SLOTS`.
     pub slots: u16,
 
     /// How many records are logged before a checkpoint is made. With 0 a checkpoint is made only where the log has no room, and at the end
@@ -26,7 +26,7 @@ impl ServeOptions {
     ghost use Rattle.commands.specs.Services.{options_in_order};
     ghost use Rattle.commands.specs.Services.{within_limits};
 
-    /// These options, with at most 64 workers and 1 to 1024 slots.
+    /// These options, with at most `MOST_WORKERS` workers and 1 to `MOST_SLOTS` slots.
     pub fn new(workers: u16, slots: u16, every: u16) -> ServeOptions
         ensures { options_in_order result ≡ within_limits (workers ∷ slots ∷ every ∷ []) }
     {

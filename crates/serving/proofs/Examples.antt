@@ -1,7 +1,9 @@
--- Worked examples, by computing: which lines take tickets, and what is known of lines.
+-- Worked examples, by computing: which lines take tickets, what is known of lines, and for how many turns a line may wait.
 use Rattle.std.proofs.Common.{◌≡◌, ℕ, List, [], ◌∷◌, map, refl, lit≤, ap, arith, ⊎_elim}
 use Rattle.std.specs.Prelude.{codes}
 use Rattle.affinity.proofs.GeometryLemmas.{small}
+use Rattle.affinity.specs.Geometry.{default_geometry}
+use Rattle.image.specs.Pieces.{piece_count}
 use Rattle.histories.proofs.Elements.{in_contained}
 use Rattle.protocol.specs.Grammar.{kind_named, message_of}
 use Rattle.protocol.specs.Words.{number_in_word}
@@ -11,6 +13,7 @@ use Rattle.protocol.specs.declared.replies.Reply.TheVariants.{Done, Summary}
 use Rattle.meaning.specs.Output.{joined, output_lines}
 use Rattle.meaning.specs.State.{empty}
 use Rattle.serving.specs.Lines.{Completed, AreKnown, NoMessage, NoneIsTo, OutOfRange, Pending, admitted, next_ticket, answer_text, ticketed}
+use Rattle.serving.specs.Turns.{turns_an_answer}
 
 -- ---- lines
 
@@ -65,3 +68,9 @@ what_they_say = refl
 the_same_as_the_serial_server : joined (output_lines small empty (codes "makevol 0 0" ∷ codes "makevol 9 0" ∷ codes "hello" ∷ [])) ≡ codes "done\nerror range\nerror line\n"
 unfolding message_of kind_named number_in_word
 the_same_as_the_serial_server = refl
+
+-- ---- turns
+
+-- at the default geometry, whose images have 20 pieces, with 16 slots
+turns_by_default : turns_an_answer (piece_count default_geometry) 16 ≡ 19110
+turns_by_default = refl

@@ -3,6 +3,7 @@ use Rattle.std.proofs.Common.{◌≡◌, ◌⊎◌, ℕ, suc, ◌+◌, ◌<◌, 
 use Rattle.std.specs.Prelude.{if◌then◌else◌, find, not}
 use Rattle.std.specs.List.{AllByRecursion}
 use Rattle.std.proofs.lemmas.Bool.{true≢false}
+use Rattle.std.specs.Option.{option_map_or}
 use Rattle.histories.specs.CoreState.{Entry}
 use Rattle.affinity.specs.declared.geometry.Geometry.{Geometry}
 use Rattle.affinity.specs.declared.kinds.Kind.{Kind}
@@ -20,7 +21,7 @@ use Rattle.protocol.specs.declared.replies.Reply.TheVariants.{Refused}
 use Rattle.meaning.proofs.OutputLemmas.{take-output_lines}
 use Rattle.meaning.specs.TicketOrder.{serial_replies}
 use Rattle.meaning.specs.Output.{answer_line, output_lines, state_after_line, state_after_lines}
-use Rattle.meaning.specs.Step.{accepted_reply, effect, state_after_all, next_state, reply_and_state, reply_to, step}
+use Rattle.meaning.specs.Step.{accepted_reply, effect, state_after_all, next_state, reply_to}
 use Rattle.meaning.specs.Refusals.{passes, refusal_by, checks}
 use Rattle.meaning.specs.State.{State}
 use Rattle.serving.specs.Lines.{Completed, AreKnown, IsKnown, Line, NoMessage, OutOfRange, Pending, admitted, admitted_in, has_answer, next_ticket, answer_text, ticketed}
@@ -34,8 +35,10 @@ module _ (g : Geometry) (x : State) where
   refused kinds.Summary ns h = absurd (true≢false h)
   refused k ns h = ap (λ (b : Bool). if not b then Some Range else find (λ test. not (passes g x k ns test)) (drop 1 (checks k))) h
 
-  pub out_of_range : (m : Msg) → is_in_range g m ≡ false → step g x m ≡ (Refused Range, x)
-  out_of_range m h = ap (λ (why : Option Refusal). reply_and_state why (accepted_reply g x m) (effect x m) x) (refused (kind m) (four_numbers m) h)
+  pub out_of_range : (m : Msg) → is_in_range g m ≡ false → (reply_to g x m ≡ Refused Range) × (next_state g x m ≡ x)
+  out_of_range m h =
+      let why = refused (kind m) (four_numbers m) h in
+      (ap (λ o. option_map_or Refused o (accepted_reply g x m)) why, ap (λ o. option_map_or (λ _. x) o (effect x m)) why)
 
 -- ---- the tickets
 
@@ -84,9 +87,9 @@ module _ (g : Geometry) (replies : List (ℕ × Reply)) where
       → IsKnown g replies n o known → has_answer known ≡ true → IsServedBy x n ms o known
   served_line x n ms None NoMessage h k done = record { retires = refl; tells = h }
   served_line x n ms (Some m) OutOfRange h k done =
-      let same = sym (out_of_range g x m k) in
-      let tells = subst (λ (q : Reply × State). HaveSerialReplies q.1 n (ticketed n ms)) same (rw k at h) in
-      record { retires = ap (λ (q : Reply × State). reply_line q.0) same; tells = rw k tells }
+      let same = out_of_range g x m k in
+      let tells = subst (λ (y : State). HaveSerialReplies y n (ticketed n ms)) (sym same.1) (rw k at h) in
+      record { retires = ap reply_line (sym same.0); tells = rw k tells }
   served_line x n ms (Some m) (Pending ticket) h k done = absurd (true≢false (sym done))
   served_line x n ms (Some m) (Completed ticket reply) h k done =
       let on : HaveSerialReplies x n (ticketed n (m ∷ ms)) = rw k.0 at h in
@@ -132,7 +135,7 @@ asked_leads g x None ms = refl
 asked_leads g x (Some m) ms = elim (is_in_range g m) as
     (λ b. is_in_range g m ≡ b → state_after_all g x ((if b then m ∷ [] else []) ++ ms) ≡ state_after_all g (next_state g x m) ms) [
       | true ↦ λ e. refl
-      | false ↦ λ e. ap (λ (q : Reply × State). state_after_all g q.1 ms) (sym (out_of_range g x m e))
+      | false ↦ λ e. ap (λ y. state_after_all g y ms) (sym (out_of_range g x m e).1)
     ] refl
 
 pub asked_leads_there : (g : Geometry) (x : State) (ls : List (List ℕ)) → state_after_all g x (admitted g ls) ≡ state_after_lines g x ls

@@ -10,6 +10,7 @@ use Rattle.scheduler.specs.DeviceEvents.{DeviceEvent, device_after, events_of}
 use Rattle.scheduler.specs.Machine.{MachineView}
 use Rattle.meaning.specs.Output.{joined}
 use Rattle.scheduler.specs.CoreView.{RecoversNow, core_state_of}
+use Rattle.serving.specs.Ends.{committed_in}
 use Rattle.serving.specs.Kill.{IsKillSafeFrom}
 use Rattle.serving.specs.Lines.{Line, answer_text}
 use Rattle.serving.specs.Start.{Start, start_machine}
@@ -18,6 +19,7 @@ use Rattle.serving.specs.Restart.{WritesBeginning}
 use Rattle.serving.specs.SessionInvariant.{KeepsSent, ServingSince}
 use Rattle.serving.proofs.MaySend.{still_in_history}
 use Rattle.serving.proofs.HoldsSent.{holds_logged, serving_kept}
+use Rattle.serving.proofs.KeepsPromise.{keeps_written}
 use Rattle.serving.proofs.RecoversWritten.{bytes_recover}
 use Rattle.serving.proofs.HaveSerialReplies.{as_many}
 use Rattle.serving.proofs.EndsWith.{has_served}
@@ -106,7 +108,8 @@ module _ {keeps : Type 0} {s : Start} {now : MachineView} {unsent : List Line} {
       let k = h.kept in
       let run = (has_served keeps (start_machine s) now idle no_doubt recovers few h.progress).run in
       let held = holds_logged idle none run kept k.number c k.within (rw k.at_send since) in
-      let all = as_many s.core.geometry h.progress.serving.reply_pairs s.core.next h.progress.consumed (h.progress.sent_lines ++ unsent) h.progress.serving.known in (
+      let all = as_many s.core.geometry h.progress.serving.reply_pairs s.core.next h.progress.consumed (h.progress.sent_lines ++ unsent) h.progress.serving.known in
+      keeps_written s.core.geometry s.core.slots (committed_in s.core) c s.input s.before sent (
         k.unanswered,
         k.all,
         k.begun,

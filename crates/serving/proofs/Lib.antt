@@ -1,8 +1,10 @@
 -- ---- for the crates above: what was sent, what a device holds of it, and what a restart goes on from
 pub mod HoldsSent
-pub mod MaySend
 pub mod RecoversWritten
+pub mod SerialServer
+pub mod KeepsPromise
 -- ---- this crate's own
+mod MaySend
 mod RunsBetween
 mod Tickets
 mod Segments
@@ -30,6 +32,7 @@ mod SessionInvariant
 mod StepsAhead
 mod Arrivals
 mod TurnsLeft
+mod InBounds
 mod IsAtRest
 mod ServePromise
 mod SessionEnds

@@ -1,11 +1,12 @@
 -- What may be sent is held by whatever a crash leaves of the device.
-use Rattle.std.proofs.Common.{◌≡◌, ℕ, true, List, [], ◌∷◌, ◌++◌, Option, ap, length, map, append_assoc, arith}
+use Rattle.std.proofs.Common.{◌≡◌, ℕ, true, List, [], ◌∷◌, ◌++◌, Option, Some, None, ap, length, map, append_assoc, arith}
 use Rattle.std.proofs.lemmas.List.{length-append}
 use Rattle.std.proofs.KnownBytes.{Appends-trans}
 use Rattle.std.specs.Io.KnownBytes.{Appends}
 use Rattle.affinity.specs.declared.geometry.Geometry.{Geometry}
 use Rattle.affinity.proofs.Elements.{all_join}
 use Rattle.disk.specs.CrashImages.{IsCrashImage}
+use Rattle.disk.proofs.CrashImagesAre.{only_now}
 use Rattle.histories.specs.CoreState.{Replied}
 use Rattle.protocol.specs.Grammar.{message_of}
 use Rattle.protocol.proofs.Newlines.{newlines}
@@ -15,17 +16,17 @@ use Rattle.message.specs.AppendsBeginning.{AppendsBeginning}
 use Rattle.scheduler.specs.CoreView.{CoreView}
 use Rattle.serving.specs.HasServed.{HasServed}
 use Rattle.serving.specs.Ends.{committed_in}
-use Rattle.serving.specs.Kill.{Between, Sending, WasKilled}
+use Rattle.serving.specs.Kill.{IsKillSafe, IsKillSafeFrom}
 use Rattle.serving.specs.Lines.{admitted_in, has_answer, answer_text, next_ticket}
 use Rattle.serving.specs.History.{AreInHistory}
 use Rattle.serving.specs.HoldsSent.{HoldsSent}
-use Rattle.serving.specs.MaySend.{MaySendFrom}
+use Rattle.serving.specs.MaySend.{MaySend, MaySendFrom}
 use Rattle.serving.specs.Start.{Start, start_machine}
-use Rattle.serving.specs.Restart.{RecoversWritten}
 use Rattle.serving.proofs.SentLines.{texts_both}
 use Rattle.serving.proofs.HoldsSent.{holds_sent}
 use Rattle.serving.proofs.Newlines.{in_answers}
-use Rattle.serving.proofs.RecoversWritten.{bytes_recover}
+use Rattle.serving.proofs.KeepsPromise.{keeps_written}
+use Rattle.serving.proofs.RecoversWritten.{RecoversWritten, bytes_recover}
 use Rattle.serving.proofs.TornSend.{all_appended, written_begins}
 
 -- The output for the first lines stays so when more lines are read.
@@ -62,7 +63,7 @@ module _ {keeps : Type 0} {s : Start} {sent later : Option (List ℕ)} {now : Co
 -- in a send, which has sent a beginning of its bytes
 module _ {keeps : Type 0} {s : Start} {sent : Option (List ℕ)} {now : CoreView} {bytes : List ℕ} (m : MaySendFrom keeps s sent now bytes)
     (torn : Option (List ℕ)) (begun : AppendsBeginning sent torn bytes) where
-  pub recovers_in_send : keeps → (c : List ℕ) → IsCrashImage now.medium c
+  recovers_in_send : keeps → (c : List ℕ) → IsCrashImage now.medium c
       → RecoversWritten s.core.geometry s.core.slots (committed_in s.core) s.input s.before torn c
   recovers_in_send kept c leaves =
       let text = joined (map answer_text m.served.sent_lines) in
@@ -73,8 +74,12 @@ module _ {keeps : Type 0} {s : Start} {sent : Option (List ℕ)} {now : CoreView
       let h = holds_sent m.idle (served_after_sending m (all_appended sent bytes)) begins.0 (omega (arith, few, both, begins.2)) m.none_in_doubt kept c leaves in
       (begins.0, all_output sent bytes, begins.1, bytes_recover s.core.next h.consumed h.lines h.first h.output h.few h.kept h.holds)
 
--- What a server leaves that was killed.
-pub recovers_killed : {keeps : Type 0} (s : Start) (written : Option (List ℕ)) (c : List ℕ) → WasKilled keeps s written c → keeps
-    → RecoversWritten s.core.geometry s.core.slots (committed_in s.core) s.input s.before written c
-recovers_killed s written c (Sending sent now lines may begun left) kept = recovers_in_send may written begun kept c left
-recovers_killed s written c (Between sent_at now safe left) kept = safe kept c left
+  safe_in_send : IsKillSafeFrom keeps s torn now.medium now
+  safe_in_send kept c since =
+      keeps_written s.core.geometry s.core.slots (committed_in s.core) c s.input s.before torn (recovers_in_send kept c (only_now now.medium c since))
+
+-- the same from a start, if there is one
+pub safe_sending : (keeps : Type 0) (o : Option Start) (sent : Option (List ℕ)) (now : CoreView) (bytes : List ℕ) → MaySend keeps o sent now bytes
+    → (told : Option (List ℕ)) → AppendsBeginning sent told bytes → IsKillSafe keeps o told now.medium now
+safe_sending keeps None sent now bytes may told begun = absurd may
+safe_sending keeps (Some s) sent now bytes may told begun = safe_in_send may told begun

@@ -24,7 +24,7 @@ use Rattle.histories.specs.CoreState.{Entry, Replied, are_related_entries, entri
 use Rattle.histories.proofs.Elements.{in_contained, IsIn, in_left}
 use Rattle.serving.specs.Runs.{AreFirst}
 use Rattle.serving.specs.Lines.{admitted, admitted_in, ticketed}
-use Rattle.serving.specs.Restart.{RecoversTo, BytesRecover}
+use Rattle.serving.specs.Restart.{RecoversTo, BytesRecover, WritesBeginning}
 use Rattle.serving.specs.History.{AreInHistory, RecoversToHistory, IsInHistory}
 use Rattle.serving.proofs.HaveSerialReplies.{HaveSerialReplies, its_reply, out_of_range as refused_for_range, serial_after, with_ticket}
 use Rattle.serving.proofs.SortedLogs.{HasNoGap, IsApart, all_kept, sorted_log}
@@ -121,7 +121,7 @@ pub record AnswersFirst (g : Geometry) (x : State) (es : List Entry) (ls written
 -- a line that takes no ticket leaves the state
 state_stays : (g : Geometry) (x : State) (o : Option Msg) → TakesNone g o → state_after_line g x o ≡ x
 state_stays g x None h = refl
-state_stays g x (Some m) h = ap (λ (q : Reply × State). q.1) (refused_for_range g x m (h m refl))
+state_stays g x (Some m) h = (refused_for_range g x m (h m refl)).1
 
 -- The output line for an input line (`IsInHistory`) is the serial server's, if the reply in the history is.
 kept_line : (g : Geometry) (x : State) (log : List Replied) (n : ℕ) (o : Option Msg) (line : List ℕ) → IsInHistory g log n o line
@@ -129,7 +129,7 @@ kept_line : (g : Geometry) (x : State) (log : List Replied) (n : ℕ) (o : Optio
 kept_line g x log n None line k same = k
 kept_line g x log n (Some m) line k same = ⊎_elim
     (λ (out : (is_in_range g m ≡ false) × (line ≡ reply_line (Refused Range))).
-    out.1 ∙ ap (λ (q : Reply × State). reply_line q.0) (sym (refused_for_range g x m out.0)))
+    out.1 ∙ ap reply_line (sym (refused_for_range g x m out.0).0))
     (λ (has : (is_in_range g m ≡ true) × ((reply : Reply) × (line ≡ reply_line reply) × Contains log (n, m, reply))).
     has.1.1 ∙ ap reply_line (same m has.1.0 refl has.0 (in_contained log (n, m, has.1.0) has.1.2))) k
 
@@ -280,3 +280,10 @@ none_written g slots x input = record {
   closed = none_there g (take slots (lines input));
   state = refl;
 }
+
+-- The output holds a beginning of what was to be written, which may be all of it (`WritesBeginning`): with all of that it would be `all`.
+-- The bytes recover to the state after the lines answered in `all` and a part of the next `unanswered` ones: so at most as many lines as
+-- there are slots are in that state without their whole answer in the output.
+abbrev pub RecoversWritten : Geometry → ℕ → State → Option (List ℕ) → Option (List ℕ) → Option (List ℕ) → List ℕ → Type 0
+RecoversWritten g slots start input before after bytes = (unanswered : ℕ) × (all : Option (List ℕ))
+    × WritesBeginning slots unanswered before after all × BytesRecover g unanswered start input before all bytes

@@ -247,13 +247,15 @@ pub record IsUnused (places : ℕ) (input : Option (List ℕ)) (p : SessionView)
   pub some_place : 0 < places
 
 -- A call that may begin satisfies the invariant.
-pub first_at : (keeps : Type 0) {o : Option Start} {p : SessionView} {places : ℕ} {input : Option (List ℕ)} → CanBegin o p.core places input p.sent p.sent_at p.reorder_buffer
+pub first_at : (keeps : Type 0) {o : Option Start} {p : SessionView} {places : ℕ} {input : Option (List ℕ)} → CanBegin o p.core places p.trigger input p.sent p.sent_at p.reorder_buffer
     → IsUnused places input p → SessionInvariantFrom keeps o p
 first_at keeps {o} {p} {places} {input} r unused =
-    let s : Start = record { core = p.core; places = places; input = input; before = p.sent } in
+    let s : Start = record { core = p.core; places = places; every = p.trigger.every; input = input; before = p.sent } in
     begins_at keeps o s p r.start_is (record {
       start = record { idle = r.idle; none_in_doubt = r.none_in_doubt };
-      fits = omega (arith, r.fits);
+      every = refl;
+      fits = r.fits;
+      some_slot = r.some_slot;
       holds = holds_first p.core p.dispatch_seat.lent places unused.none_lent r.idle;
       places = ap (λ (l : List (Option JobView)). length l) unused.none_lent ∙ length-replicate places None ∙ sym unused.slots;
       some_place = subst (λ (n : ℕ). 0 < n) (sym unused.slots) unused.some_place;

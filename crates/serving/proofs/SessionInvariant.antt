@@ -122,7 +122,7 @@ waits_on w more few =
 -- ---- what is in flight
 
 -- no hand has a job where nothing is lent at any place
-all_empty : (n : ℕ) → full_hands (map hand_in (map lent_hand (replicate n None))) ≡ 0
+pub all_empty : (n : ℕ) → full_hands (map hand_in (map lent_hand (replicate n None))) ≡ 0
 all_empty zero = refl
 all_empty (suc n) = all_empty n
 
@@ -182,6 +182,13 @@ module _ (keeps : Type 0) where
       let k = progress_at_end s p p.read_end u.reads in
       idle_again u.idle (simp none at (to_reorder_buffer k.2)))
 
+  -- There is a slot.
+  pub has_slots : (o : Option Start) (p : SessionView) → SessionInvariantFrom keeps o p → 0 < p.reorder_buffer.slots
+  has_slots o p u = ask o p u (λ s u.
+      let fits = u.fits in
+      let some = u.some_slot in
+      omega (arith, fits, some))
+
   -- ---- steps
 
   -- from a session p that satisfies its invariant, whatever its start
@@ -208,11 +215,12 @@ module _ (keeps : Type 0) where
           u,
         ))
 
-    -- What is counted towards the next checkpoint is free.
-    pub on_trigger : (trigger : CheckpointTrigger) → SessionInvariantFrom keeps o (record p { trigger = trigger })
-    on_trigger trigger =
+    -- What is counted towards the next checkpoint is free, but not the number of records after which it is due.
+    pub on_trigger : (trigger : CheckpointTrigger) → trigger.every ≡ p.trigger.every → SessionInvariantFrom keeps o (record p { trigger = trigger })
+    on_trigger trigger every =
         let q : SessionView = record p { trigger = trigger } in
         goes_to q (λ s u. assumption (
+          every ∙ u.every,
           reads_on s p q refl (λ x. x) (λ unread drained h. record { waits = h.waits; whole = h.whole; output = h.output; since = h.since }) p.read_end u.reads,
           u,
         ))
@@ -225,7 +233,7 @@ module _ (keeps : Type 0) where
     on_answer core reorder_buffer ticket reply k is slots =
         let q : SessionView = record p { core = core; reorder_buffer = reorder_buffer } in
         goes_to q (λ s u. assumption (
-          subst (λ (n : ℕ). n ≤ s.core.slots) (sym slots) u.fits,
+          slots ∙ u.fits,
           k.0,
           reads_on s p q (passes_next k.1) (still_failed k.1) (λ unread drained h. record {
             waits = waits_on h.waits (omega (arith, ap length is, length-map p.reorder_buffer.lines (complete_one ticket reply))) (omega (arith, h.bounded, slots));
@@ -245,7 +253,7 @@ module _ (keeps : Type 0) where
         let one = f.line ∷ [] in
         let q : SessionView = record p { reorder_buffer = buffer; reply_buffer = bytes } in
         goes_to q (λ s u. assumption (
-          subst (λ (n : ℕ). n ≤ s.core.slots) (sym slots) u.fits,
+          slots ∙ u.fits,
           reads_on s p q refl (λ x. x) (λ unread drained h. record {
             waits = record {
               waiting = h.waiting ++ one;
@@ -362,7 +370,7 @@ module _ (keeps : Type 0) where
 
     reads_next : (s : Start) → SessionInvariant keeps s p → HandsHaveJobs (machine next) → SessionProgress keeps s next unread drained → SessionInvariant keeps s next
     reads_next s u holds progress_at_end = assumption (
-      subst (λ (n : ℕ). n ≤ s.core.slots) (sym slots) u.fits,
+      slots ∙ u.fits,
       subst (λ (x : Option ReadEnd). ReadsOrHasEnded keeps s next x) (sym none) progress_at_end,
       u,
     )
@@ -407,7 +415,7 @@ module _ (keeps : Type 0) where
           };
           why = subst (λ (y : Geometry). IsReadEnd y core p.unread p.drained remaining read_end) h.progress.serving.segment.leads.geometry why;
         } in
-        assumption (subst (λ (n : ℕ). n ≤ s.core.slots) (sym slots) u.fits, k.holds, reads, u))
+        assumption (slots ∙ u.fits, k.holds, reads, u))
 
   -- The next ticket comes after those of the reorder buffer.
   pub follows : (o : Option Start) (p : SessionView) → p.read_end ≡ None → SessionInvariantFrom keeps o p

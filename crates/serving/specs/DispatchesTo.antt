@@ -1,4 +1,4 @@
--- Statement for engineers: What is dispatched to the places of a bench, why nothing is, and when nothing is in flight.
+-- Inner: What is dispatched to the places of a bench, why nothing is, and when nothing is in flight.
 use Rattle.std.specs.Prelude.{◌≡◌, ℕ, Bool, true, false, List, Option, Some, None, Result, Ok, Err, is_none, length, position, replicate, slice_set}
 use Rattle.affinity.specs.declared.geometry.Geometry.{Geometry}
 use Rattle.histories.specs.CoreState.{CoreState}

@@ -20,5 +20,7 @@ pub mod SessionSteps
 pub mod SessionInvariant
 pub mod View
 pub mod Restart
+pub mod AnyRuns
+pub mod SerialServer
 pub mod Kill
 pub mod Turns

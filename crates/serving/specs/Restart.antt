@@ -1,4 +1,4 @@
--- Statement for clients: The state that a restart after a crash recovers, in terms of lines: those acknowledged, and which of the others.
+-- Statement for operators: The state that a restart after a crash recovers, in terms of lines: those acknowledged, and which of the others.
 use Rattle.std.specs.Prelude.{◌≡◌, ℕ, ◌+◌, ◌==◌, List, ◌++◌, count_by, take, Option, Some}
 use Rattle.std.specs.Io.KnownBytes.{Appends}
 use Rattle.affinity.specs.declared.geometry.Geometry.{Geometry}
@@ -46,10 +46,3 @@ pub record BytesRecover (g : Geometry) (slots : ℕ) (start : State) (input befo
   pub now : State
   pub holds_now : recovered_state g bytes ≡ Some now
   pub recovers : WritesOutput input before after (RecoversTo g slots start now)
-
--- The output holds a beginning of what was to be written, which may be all of it (`WritesBeginning`): with all of that it would be `all`.
--- The bytes recover to the state after the lines answered in `all` and a part of the next `unanswered` ones: so at most as many lines as
--- there are slots are in that state without their whole answer in the output.
-abbrev pub RecoversWritten : Geometry → ℕ → State → Option (List ℕ) → Option (List ℕ) → Option (List ℕ) → List ℕ → Type 0
-RecoversWritten g slots start input before after bytes = (unanswered : ℕ) × (all : Option (List ℕ))
-    × WritesBeginning slots unanswered before after all × BytesRecover g unanswered start input before all bytes

@@ -6,7 +6,6 @@ use Rattle.serving.specs.DispatchesTo.{NoneInFlight, asks_for_checkpoint}
 use Rattle.serving.specs.declared.dispatch.Blocked.{Blocked}
 use Rattle.reorder_buffer.specs.ReorderBuffer.{can_retire}
 use Rattle.oplog.specs.Recovery.{records_in}
-use Rattle.serving.specs.declared.dispatch.Blocked.TheVariants as blocked
 use Rattle.serving.specs.declared.session.ReadEnd.{ReadEnd}
 use Rattle.serving.specs.declared.session.ReadEnd.TheVariants as ends_of_reading
 use Rattle.serving.specs.declared.server.ServeFault.{ServeFault}

@@ -79,8 +79,11 @@ ReadsOrHasEnded keeps s p read_end = MatchOption read_end (SessionProgress keeps
 pub record SessionInvariant (keeps : Type 0) (s : Start) (p : SessionView) : Type 0 where
   pub start : IsIdleStart s
   pub open start use *
-  -- the reorder buffer has room for no more lines than the core has slots
-  pub fits : p.reorder_buffer.slots ≤ s.core.slots
+  -- checkpoints are due by the count that was asked for
+  pub every : p.trigger.every ≡ s.every
+  -- the reorder buffer has room for as many lines as the core has slots, of which there is one
+  pub fits : p.reorder_buffer.slots ≡ s.core.slots
+  pub some_slot : 0 < s.core.slots
   -- each hand that isn't empty has the job of a message in flight
   pub holds : HandsHaveJobs (machine p)
   pub places : length p.dispatch_seat.lent ≡ places_of p.dispatch_seat.bench

@@ -1,5 +1,5 @@
--- Statement for engineers: How a call moves a session.
-use Rattle.std.specs.Prelude.{[], ◌≡◌, ◌≢◌, ◌⊎◌, ◌+◌, ◌*◌, ◌<◌, ◌≤◌, ℕ, Bool, true, false, Some, None, OnErr, MatchResult, Result}
+-- Inner: How a call moves a session.
+use Rattle.std.specs.Prelude.{[], ◌≡◌, ◌≢◌, ◌⊎◌, ◌+◌, ◌*◌, ◌<◌, ◌≤◌, ℕ, Bool, true, false, Option, Some, None, IsSomeAnd, OnErr, MatchResult, Result}
 use Rattle.histories.specs.CoreState.{held}
 use Rattle.histories.specs.Progress.{points_left}
 use Rattle.scheduler.specs.CoreView.{core_state_of}
@@ -11,6 +11,7 @@ use Rattle.serving.specs.declared.session.Activity.{Activity}
 use Rattle.serving.specs.declared.session.Activity.TheVariants as activities
 use Rattle.serving.specs.declared.session.Halted.{Halted}
 use Rattle.serving.specs.Session.{SessionView, NoneUnanswered, steps_ahead, CanReadLine}
+use Rattle.serving.specs.Start.{Start}
 
 -- Why no more is read, and whether the output has failed, are as before.
 abbrev pub KeepsReadEndAndOutputFailed : SessionView → SessionView → Type 0
@@ -63,7 +64,7 @@ CallsForCheckpoint p = IsDue p.trigger p.core.pieces_left ⊎ IsBlockedIn p bloc
 -- A checkpoint has begun while no message was held. The count towards the next one starts anew, and half of the log is free.
 pub record StartsAfresh (old new : SessionView) : Type 0 where
   pub none_held : held (core_state_of old.core) ≡ []
-  pub counted : new.trigger.logged_since ≡ 0
+  pub counted : new.trigger.answered_since ≡ 0
   pub room : new.core.room ≡ new.core.geometry.half
 
 -- How a checkpoint has moved.
@@ -93,6 +94,10 @@ pub data HasGoneOn (old new : SessionView) (activity : Activity) : Type 0 where
 -- Nothing is left to do but to read: no line is unanswered, and no checkpoint is in progress.
 abbrev pub IsResting : SessionView → Type 0
 IsResting p = NoneUnanswered p × (p.core.pieces_left ≡ None)
+
+-- The session has the geometry of the core at this start, and as many slots.
+abbrev pub IsOfStart : Option Start → SessionView → Type 0
+IsOfStart start p = IsSomeAnd start (λ s. (p.core.geometry ≡ s.core.geometry) × (p.reorder_buffer.slots ≡ s.core.slots))
 
 -- The output has failed, or else the device.
 abbrev pub HasHalted : SessionView → Type 0

@@ -4,6 +4,7 @@ ghost use Rattle.std.specs.Prelude.{◌≡◌, ◌+◌, ◌<◌, ◌≤◌, ◌�
 ghost use Rattle.serving.specs.Kill.{IsKillSafe};
 ghost use Rattle.serving.specs.Checkpoints.{IsDue};
 ghost use Rattle.serving.specs.DispatchesTo.{NoneInFlight};
+ghost use Rattle.serving.specs.Session.{steps_ahead};
 ghost use Rattle.serving.specs.SessionSteps.{HasMoved, HasReadNothing, IsBlockedIn, KeepsReadEndAndOutputFailed};
 ghost use Rattle.serving.specs.declared.dispatch.Blocked.{Blocked};
 
@@ -11,15 +12,18 @@ use crate::dispatch::Blocked;
 use crate::output::ReplySink;
 use crate::session::{GatedRuntime, Session};
 use disk::Disk;
+use oplog::RECORDS_PER_WRITE;
 use protocol::Reply;
 use std::hint::spin_loop;
 use std::io::Read;
 use std::thread::yield_now;
 use workers::MOST_PLACES;
 
-/// How many messages may be collected before what ran is logged: the log writes that many records by one write of the records and one of
-/// their gates.
+/// How many messages may be collected before what ran is logged.
 const BATCH: usize = MOST_PLACES;
+
+// A batch is logged by one write of its records and one of their gates.
+const _: () = prove!(BATCH <= RECORDS_PER_WRITE);
 
 // A batch has room for a result from each place. With less room a poll could end early, at a full batch, before it has looked at the last
 // places. A result at one of these, whose signal the loop has seen already, would stay there, and the loop could sleep in spite of it.
@@ -104,6 +108,7 @@ impl<'c, R: Read, D: Disk, L: ReplySink<D>> Session<'c, R, D, L> {
         ensures places { length self.new.dispatch_seat.lent ≡ length self.old.dispatch_seat.lent }
         ensures failed { self.new.core.failed ≡ self.old.core.failed }
         ensures none { IfNone result (self.new ≡ self.old) }
+        ensures some { IfSome result (λ _. steps_ahead self.new < steps_ahead self.old) }
     {
         self.core.know_recovery();
         let Some(done) = self.bench.collect(&mut self.dispatch_seat, k) else {

@@ -60,11 +60,13 @@ fn offer_granted(
 }
 
 impl<'c, R: Read, D: Disk, L: ReplySink<D>> Session<'c, R, D, L> {
-    /// Dispatches the eligible message with the least ticket, if there is one, to place k, the first free one. To dispatch a message is one
-    /// act at four levels, each of which has its own word for it: the core grants the message (`grant`), the run queue and the session
-    /// dispatch it, the bench offers its job to the workers (`offer`), and the tree lends the job its parcels (`lend`).
+    /// Dispatches the eligible message with the least ticket, if there is one, to place k, the first free one. No checkpoint may be due:
+    /// where one is, messages wait, so that none is held any more and it can begin. To dispatch a message is one act at four levels, each
+    /// of which has its own word for it: the core grants the message (`grant`), the run queue and the session dispatch it, the bench offers
+    /// its job to the workers (`offer`), and the tree lends the job its parcels (`lend`).
     fn dispatch_to(&mut self, k: usize) -> Result<(), Blocked>
         requires first { position is_none self.old.dispatch_seat.lent ≡ Some k }
+        requires not_due { IsDue self.old.trigger self.old.core.pieces_left → ⊥ }
         ensures moves { HasMoved self.old self.new }
         ensures geometry { self.new.core.geometry ≡ self.old.core.geometry }
         ensures dispatches { DispatchesTo self.old.core.geometry k (core_state_of self.old.core) self.old.dispatch_seat.lent
@@ -77,6 +79,7 @@ impl<'c, R: Read, D: Disk, L: ReplySink<D>> Session<'c, R, D, L> {
 
     /// Dispatches eligible messages, the one with the least ticket first, as long as it can. Returns why it ended.
     fn dispatch_all(&mut self) -> Blocked
+        requires { IsDue self.old.trigger self.old.core.pieces_left → ⊥ }
         ensures moves { HasMoved self.old self.new }
         ensures ended { IsBlockedIn self.new result }
     {

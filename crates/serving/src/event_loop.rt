@@ -6,27 +6,18 @@ ghost use Rattle.std.specs.Prelude.{◌≡◌, ◌≢◌, Err, IfSome, MatchResu
 ghost use Rattle.oplog.specs.Recovery.{records_in};
 ghost use Rattle.serving.specs.SessionEnds.{EndsBy, HasFinished, end_of};
 ghost use Rattle.serving.specs.Kill.{IsKillSafe};
-ghost use Rattle.serving.specs.SessionSteps.{HasHalted, HasReadNothing, IsResting, IsSessionStep};
-ghost use Rattle.serving.specs.Turns.{IsTurned};
-ghost use Rattle.serving.specs.declared.session.Activity.TheVariants as activities;
+ghost use Rattle.serving.specs.Session.{NoneUnanswered};
+ghost use Rattle.serving.specs.SessionSteps.{HasHalted, HasReadNothing, IsSessionStep};
 ghost use Rattle.serving.specs.declared.session.ReadEnd.TheVariants as ends_of_reading;
 
 use crate::output::ReplySink;
 use crate::server::ServeFault;
-use crate::session::{Activity, GatedRuntime, Halted, ReadEnd, Session, or_halt};
+use crate::session::{GatedRuntime, Halted, ReadEnd, Session, or_halt};
+use crate::turns::Turned;
 use disk::Disk;
 use std::io::Read;
 use std::sync::Wait;
 use workers::{DispatcherTask, Gate};
-
-/// What a turn of the loop has come to.
-#[derive(Clone, Copy)]
-pub(crate) enum Turned {
-    /// The loop goes on. This is what the turn has done.
-    Went(Activity),
-    /// The loop ends: no more is read, for this reason, and each line that was read is retired.
-    Ends(ReadEnd),
-}
 
 /// What a server reports where it read no more for this reason: no fault at the end of the input.
 fn reported_for(read_end: ReadEnd) -> Result<(), ServeFault>
@@ -58,19 +49,6 @@ impl<'c, R: Read, D: Disk, L: ReplySink<D>> Session<'c, R, D, L> {
         }
     }
 
-    /// Why the loop ends, once no more is read, each line that was read is retired, and no checkpoint is in progress. `None`: it goes on.
-    fn ended(&self) -> Option<ReadEnd>
-        ensures some { IfSome result
-            (λ read_end. (self.now.read_end ≡ Some read_end) × (self.now.reorder_buffer.lines ≡ []) × (self.now.core.pieces_left ≡ None)) }
-        ensures exact { self.now.reorder_buffer.lines ≡ [] → self.now.core.pieces_left ≡ None → result ≡ self.now.read_end }
-    {
-        if self.reorder_buffer.len() == 0 && self.core.pieces_left().is_none() {
-            self.read_end
-        } else {
-            None
-        }
-    }
-
     /// Sends the answers in the reply buffer, and at the end of the input makes the last checkpoint: no message is in the core then, and
     /// the log is empty after the checkpoint. `Halted` where the device or the output has failed.
     fn finish(&mut self, read_end: ReadEnd) -> Result<(), Halted>
@@ -96,30 +74,17 @@ impl<'c, R: Read, D: Disk, L: ReplySink<D>> Session<'c, R, D, L> {
         }
     }
 
-    /// One turn of the loop, after one that did `last`: reads lines, and does what can be done. It waits for input only while no line is
-    /// unanswered (`read_more`). The law `a_session_gets_on` says what follows from its contract for any number of turns.
-    fn turn<W: GatedRuntime>(&mut self, rt: &W, last: Activity) -> Result<Turned, Halted>
-        requires rested { last ≡ activities.Idle → IsResting self.old }
-        requires safe { IsKillSafe D.keeps L.start self.old.sent self.old.sent_at self.old.core }
-        ensures turned { MatchResult result (IsTurned self.old last self.new) (λ _. HasHalted self.new) }
-    {
-        let read = self.read_more(last);
-        if let Some(read_end) = self.ended() {
-            return Ok(Turned::Ends(read_end));
-        }
-        let activity = self.advance(rt, read)?;
-        Ok(Turned::Went(activity))
-    }
-
     /// Reads lines and answers them, until no more is read and the answer to each line that was read is sent: gives why no more is read.
+    /// Each turn is told what the one before has done.
     fn run_loop<W: GatedRuntime>(&mut self, rt: &W) -> Result<ReadEnd, Halted>
+        requires none_unanswered { NoneUnanswered self.old }
         ensures served { MatchResult result (HasFinished D.keeps self.new) (λ _. HasHalted self.new) }
     {
-        let mut last = Activity::Busy;
+        let mut told = self.first_told();
         for _ in rt.forever() {
             self.know_kill_safe();
-            match self.turn(rt, last)? {
-                Turned::Went(activity) => last = activity,
+            match self.turn(rt, told)? {
+                Turned::Went(did) => told = did,
                 Turned::Ends(read_end) => {
                     self.finish(read_end)?;
                     return Ok(read_end);
@@ -135,9 +100,10 @@ impl<'c, R: Read, D: Disk, L: ReplySink<D>> DispatcherTask<Result<(), ServeFault
     ghost use Rattle.std.specs.Prelude.{◌≡◌, [], OnOk, false};
     ghost use Rattle.oplog.specs.Recovery.{records_in};
     ghost use Rattle.serving.specs.Kill.{IsKillSafe};
+    ghost use Rattle.serving.specs.Session.{NoneUnanswered};
     ghost use Rattle.serving.specs.SessionEnds.{EndsBy};
 
-    ghost can_begin = { λ s. s.output_failed ≡ false };
+    ghost can_begin = { λ s. (s.output_failed ≡ false) × NoneUnanswered s };
 
     // The threads are waited for after it: a kill so far has lost nothing of what was sent, either.
     ghost gives = { λ old new end. EndsBy new end × OnOk end (D.keeps → records_in new.core.geometry new.core.medium.now ≡ [])

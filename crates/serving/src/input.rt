@@ -151,7 +151,7 @@ impl<'c, R: Read, D: Disk, L: ReplySink<D>> Session<'c, R, D, L> {
         requires none_unanswered { NoneUnanswered self.old }
         requires safe { IsKillSafe D.keeps L.start self.old.sent self.old.sent_at self.old.core }
         ensures taken { HasTakenLines self.old self.new result }
-        ensures waited { result ≡ activities.Idle → 0 < self.new.reorder_buffer.slots → self.new.read_end ≢ None }
+        ensures waited { result ≡ activities.Idle → self.new.read_end ≢ None }
         ensures output_failed { self.new.output_failed ≡ self.old.output_failed }
         ensures slots { self.new.reorder_buffer.slots ≡ self.old.reorder_buffer.slots }
     {
@@ -173,7 +173,7 @@ impl<'c, R: Read, D: Disk, L: ReplySink<D>> Session<'c, R, D, L> {
         requires safe { IsKillSafe D.keeps L.start self.old.sent self.old.sent_at self.old.core }
         ensures output_failed { self.new.output_failed ≡ self.old.output_failed }
         ensures taken { HasTakenLines self.old self.new result }
-        ensures waited { last ≡ activities.Idle → result ≡ activities.Idle → 0 < self.new.reorder_buffer.slots → self.new.read_end ≢ None }
+        ensures waited { last ≡ activities.Idle → result ≡ activities.Idle → self.new.read_end ≢ None }
         ensures all_read { CanReadLine self.new → ⊥ }
     {
         let mut read = match last {

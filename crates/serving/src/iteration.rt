@@ -83,7 +83,7 @@ impl<'c, R: Read, D: Disk, L: ReplySink<D>> Session<'c, R, D, L> {
         ensures goes_on { IfOk result (λ activity. read ≡ activities.Idle → HasGoneOn self.old self.new activity) }
     {
         let why = self.dispatch_and_collect();
-        let moved = self.log_and_reply(rt)?;
+        let moved = self.log_and_answer(rt)?;
         let caught_up = self.has_caught_up();
         if (moved || matches!(read, Activity::Busy)) && !caught_up {
             return Ok(Activity::Busy);

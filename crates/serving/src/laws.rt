@@ -27,8 +27,7 @@ ghost use Rattle.scheduler.specs.CoreView.{CoreView, RecoversNow, core_state_of}
 ghost use Rattle.serving.specs.Ends.{EndsWith, IsQuiesced, committed_in};
 ghost use Rattle.serving.specs.Exchange.{exchange};
 ghost use Rattle.serving.specs.Progress.{ServingProgress};
-ghost use Rattle.serving.specs.Kill.{WasKilled};
-ghost use Rattle.serving.specs.Restart.{BytesRecover, RecoversWritten};
+ghost use Rattle.serving.specs.Restart.{BytesRecover};
 ghost use Rattle.serving.specs.History.{AreInHistory, RecoversToHistory};
 ghost use Rattle.serving.specs.HoldsSent.{HoldsSent};
 ghost use Rattle.serving.specs.MaySend.{MaySend, SendsNoReply};
@@ -39,7 +38,7 @@ ghost use Rattle.scheduler.specs.Machine.{MachineView, machine_of};
 ghost use Rattle.scheduler.specs.DeviceEvents.{device_after, events_of};
 ghost use Rattle.serving.specs.Runs.{RunsBetween, unanswered, HasRunLines};
 ghost use Rattle.serving.specs.HasServed.{HasServed};
-ghost use Rattle.serving.specs.Turns.{AreTurns, IsBounded, LoopView, NoneIsSent, Turn, busy_turns, lines_read, turns_a_line, turns_left};
+ghost use Rattle.serving.specs.Turns.{AreTurns, IsInBounds, LoopView, Turn, busy_turns, lines_read, lines_sent, pieces, slots, turns_a_line, turns_an_answer, turns_left};
 ghost use Rattle.serving.specs.declared.server.ServeFault.TheVariants as faults;
 ghost use Rattle.serving.specs.declared.session.Activity.TheVariants as activities;
 
@@ -154,28 +153,21 @@ pub fn what_may_be_sent_is_recovered<D: Disk>()
         → BytesRecover s.core.geometry s.core.slots (committed_in s.core) s.input s.before later c }
 {}
 
-/// A kill loses no line that was sent, whenever it comes: in a `send`, which may have sent a beginning of its lines, or between two. What a
-/// crash leaves then recovers to a state with each line whose answer was sent, and with at most as many others as there are slots: where
-/// one of these is left out, so is each later one related to it.
-pub fn a_kill_loses_no_line_that_was_sent<D: Disk>()
-    ensures { (s : Start) (written : Option (List ℕ)) (c : List ℕ) → WasKilled D.keeps s written c → D.keeps
-        → RecoversWritten s.core.geometry s.core.slots (committed_in s.core) s.input s.before written c }
-{}
-
-/// A session gets on: a turn of its loop that meets no fault waits for a worker, or leaves less to do but for the lines that it reads. So
-/// of any number of turns, one after the other, only so many wait for no worker: those that are left to do at first (`turns_left`), and a
-/// fixed number for each line that they read (`turns_a_line`). While no answer is sent no more lines are read than may be outstanding, and
-/// the number of such turns has a bound. After a turn that did nothing, in which no line is unanswered, the next one has read a line, if
-/// the loop goes on.
+/// A session gets on: a turn of its loop that meets no fault may have waited for a worker, or leaves less to do but for the lines that it
+/// reads. So of any number of turns, one after the other, only so many wait for no worker: those that are left to do at first
+/// (`turns_left`), and a fixed number for each line that they read, or for each answer that they send and for each slot (`turns_a_line`).
+/// While one of the lines that are outstanding at first isn't answered, fewer turns wait for no worker than `turns_an_answer`, a number
+/// that depends on the device and the slots alone. After a turn that did nothing, in which no line is unanswered, the next one has read a
+/// line, if the loop goes on.
 pub fn a_session_gets_on()
-    ensures turns { (n slots : ℕ) (m : LoopView) (later : List LoopView) (turns : AreTurns m later)
-        → AllByRecursion (IsBounded n slots) (m ∷ later)
-        → busy_turns later ≤ turns_left n m + turns_a_line n * lines_read m later turns }
-    ensures unsent { (n slots : ℕ) (m : LoopView) (later : List LoopView) (turns : AreTurns m later)
-        → AllByRecursion (IsBounded n slots) (m ∷ later) → NoneIsSent m later turns
-        → busy_turns later ≤ turns_left n m + turns_a_line n * slots }
-    ensures idle { (old new : LoopView) (turn : Turn old new) → 0 < old.session.reorder_buffer.slots → old.last ≡ activities.Idle
-        → NoneUnanswered old.session × (old.session.outstanding < turn.mid.outstanding) }
+    ensures turns { (m : LoopView) (later : List LoopView) (turns : AreTurns m later)
+        → busy_turns later ≤ turns_left (pieces m) m + turns_a_line (pieces m) * lines_read m later turns }
+    ensures sent { (m : LoopView) (later : List LoopView) (turns : AreTurns m later)
+        → busy_turns later ≤ turns_left (pieces m) m + turns_a_line (pieces m) * (lines_sent m later turns + slots m) }
+    ensures answered { (m : LoopView) (later : List LoopView) (turns : AreTurns m later) → IsInBounds m.session
+        → lines_sent m later turns < m.session.outstanding → busy_turns later < turns_an_answer (pieces m) (slots m) }
+    ensures idle { (old new : LoopView) (turn : Turn old new) → old.last ≡ activities.Idle
+        → NoneUnanswered old.session × (old.session.outstanding < turn.outstanding) }
 {}
 
 /// Nothing may be sent too early: as long as each message that has arrived is still in the core, waiting or held, no call may send a reply

@@ -1,15 +1,11 @@
 //! Where a server sends its lines, and what it sends: nothing but what a crash of the device can't take back.
 
-ghost use Rattle.std.specs.Prelude.{◌≡◌, ◌+◌, List, [], ◌∷◌, false, length, IfOk, IsFalse, IsTrue, OnOk};
-ghost use Rattle.histories.specs.CoreState.{Replied};
+ghost use Rattle.std.specs.Prelude.{◌≡◌, ◌+◌, [], false, length, IfOk, IsFalse, IsTrue, OnOk};
 ghost use Rattle.message.specs.BufferedOutput.{FitsReply};
-ghost use Rattle.scheduler.specs.CoreView.{core_state_of};
 ghost use Rattle.reorder_buffer.specs.ReorderBuffer.{can_retire};
-ghost use Rattle.serving.specs.Checkpoints.{trigger_after};
-ghost use Rattle.serving.specs.SessionSteps.{HasReadNothing, KeepsCoreState, KeepsReadEndAndOutputFailed, IsOutputStep};
-ghost use Rattle.serving.specs.Session.{steps_ahead};
+ghost use Rattle.serving.specs.SessionSteps.{IsOutputStep};
 
-use crate::session::{GatedRuntime, Halted, Session};
+use crate::session::{Halted, Session};
 use disk::Disk;
 use message::WriteFault;
 use scheduler::Core;
@@ -27,7 +23,7 @@ pub trait ReplySink<D: Disk> {
     ghost use Rattle.serving.specs.MaySend.{MaySend};
     ghost use Rattle.serving.specs.Start.{Start};
 
-    /// What the `serve` call whose lines are sent began with (its core, places, input and output); `None` before that call.
+    /// What the `serve` call whose lines are sent began with (its core, places, checkpoints, input and output); `None` before that call.
     ghost start: { Option Start };
 
     /// What was sent, if it is known.
@@ -37,7 +33,8 @@ pub trait ReplySink<D: Disk> {
     ghost sent_at: { Self → Medium };
 
     /// Sends lines, each with its newline, after those that were sent before. `core` is the server's core as it is now: the conditions
-    /// speak of it. `safe` is of what was sent before: a kill at any moment since the last `send` began has lost none of it.
+    /// speak of it. `safe`: a server that was killed at any moment since the last `send` began has kept its promise. `sending`: so has one
+    /// that is killed while the lines are sent, when any beginning of them is out.
     ///
     /// # Errors
     ///
@@ -45,6 +42,8 @@ pub trait ReplySink<D: Disk> {
     fn send(&mut self, lines: &[u8], core: &Core<D>) -> Result<(), WriteFault>
         requires may { MaySend D.keeps start (sent self.old) core.now lines.now }
         requires safe { IsKillSafe D.keeps start (sent self.old) (sent_at self.old) core.now }
+        requires sending { (told : Option (List ℕ)) → AppendsBeginning (sent self.old) told lines.now
+            → IsKillSafe D.keeps start told core.now.medium core.now }
         ensures at { sent_at self.new ≡ core.now.medium }
         ensures sent { OnOk result (Appends (sent self.old) (sent self.new) lines.now) }
         ensures begun { OnErr result (AppendsBeginning (sent self.old) (sent self.new) lines.now) };
@@ -53,31 +52,6 @@ pub trait ReplySink<D: Disk> {
 // In clauses `read_end` is why no more is read. `IsOutputStep` says that it stays, and that nothing is read; at `Ok` so does
 // `output_failed`, and at `Err` the output has failed.
 impl<'c, R: Read, D: Disk, L: ReplySink<D>> Session<'c, R, D, L> {
-    /// Answers the oldest logged message that isn't answered, if there is one: its line in the reorder buffer gets the reply. Returns
-    /// whether there was one. A change that was carried out is counted towards the next checkpoint, by a count that saturates.
-    pub(crate) fn answer_first<W: GatedRuntime>(&mut self, rt: &W) -> bool
-        ensures as_before { KeepsReadEndAndOutputFailed self.old self.new }
-        ensures unread { HasReadNothing self.old self.new }
-        ensures dispatch_seat { self.new.dispatch_seat ≡ self.old.dispatch_seat }
-        ensures state_after { core_state_of self.new.core ≡ record (core_state_of self.old.core) { logged = self.new.core.logged } }
-        ensures fewer { IsTrue result → length self.new.core.logged + 1 ≡ length self.old.core.logged }
-        ensures none { IsFalse result → (self.new.core.logged ≡ []) × KeepsCoreState self.old self.new }
-        ensures trigger { IsFalse result → self.new.trigger ≡ self.old.trigger }
-        ensures counted { (first : Replied) (later : List Replied) → self.old.core.logged ≡ first ∷ later
-            → self.new.trigger ≡ trigger_after self.old.trigger first.2 }
-        ensures steps { IsTrue result → steps_ahead self.new + 1 ≡ steps_ahead self.old }
-    {
-        self.core.know_recovery();
-        let first = self.core.answer();
-        let Some((ticket, reply)) = first else {
-            return false;
-        };
-        rt.answered(ticket);
-        self.trigger.count(&reply);
-        self.reorder_buffer.answer(ticket, reply);
-        true
-    }
-
     /// Sends the answers in the reply buffer. `Halted` if that fails, or if an earlier send had failed: then nothing is sent.
     pub(crate) fn flush_replies(&mut self) -> Result<(), Halted>
         ensures step { IsOutputStep self.old self.new result }
@@ -151,18 +125,5 @@ impl<'c, R: Read, D: Disk, L: ReplySink<D>> Session<'c, R, D, L> {
     {
         while self.retire_first()? {}
         Ok(())
-    }
-
-    /// Answers all messages that are logged, and sends the lines that are next in order.
-    pub(crate) fn answer_and_flush<W: GatedRuntime>(&mut self, rt: &W) -> Result<(), Halted>
-        ensures step { IsOutputStep self.old self.new result }
-        ensures dispatch_seat { self.new.dispatch_seat ≡ self.old.dispatch_seat }
-        ensures state_after { core_state_of self.new.core ≡ record (core_state_of self.old.core) { logged = [] } }
-        ensures flushed { OnOk result ((self.new.reply_buffer ≡ []) × (self.new.output_failed ≡ false)) }
-        ensures last { OnOk result (can_retire self.new.reorder_buffer.lines ≡ false) }
-    {
-        while self.answer_first(rt) {}
-        self.retire_ready()?;
-        self.flush_replies()
     }
 }

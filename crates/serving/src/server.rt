@@ -139,7 +139,7 @@ fn run_session<
     of: PhantomData<N>,
 ) -> (Result<Core<D>, ServeError<D>>, &'a mut R, L)
     requires reader { reader.ghost_name ≡ N.name }
-    requires can_begin { CanBegin L.start core (places_of memory.bench) (R.remaining reader.now) (L.sent sink) (L.sent_at sink)
+    requires can_begin { CanBegin L.start core (places_of memory.bench) trigger (R.remaining reader.now) (L.sent sink) (L.sent_at sink)
         memory.reorder_buffer }
     requires workers { places_of memory.bench ≢ 0 }
     ensures same { result.1.ghost_name ≡ reader.entry.ghost_name }
@@ -206,7 +206,8 @@ pub fn serve_to<T: Threads + Wait + Sync, R: Read, L: ReplySink<D>, D: Disk + Dr
     every: u64,
     gate: &G,
 ) -> (Result<Core<D>, ServeError<D>>, L)
-    requires start { L.start ≡ Some (record { core = core; places = workers; input = R.remaining r.old; before = L.sent sink }) }
+    requires start { L.start
+        ≡ Some (record { core = core; places = workers; every = every; input = R.remaining r.old; before = L.sent sink }) }
     requires at_start { L.sent_at sink ≡ core.medium }
     requires idle { IsIdle (core_state_of core) }
     requires works { core.failed ≡ false }

@@ -20,8 +20,8 @@ use std::sync::Wait;
 use std::thread::Threads;
 use workers::{Gate, know_returned};
 
-/// What a call that writes its answers to a writer began with (a `Start`: core, places, input, output), and the name by which proofs know
-/// its borrow of the writer.
+/// What a call that writes its answers to a writer began with (a `Start`: core, places, checkpoints, input, output), and the name by which
+/// proofs know its borrow of the writer.
 trait Beginning {
     ghost use Rattle.std.specs.Prelude.{Option};
     ghost use Rattle.std.specs.Borrow.{GName};
@@ -85,7 +85,8 @@ fn with_writer<
     gate: &G,
 ) -> (Result<Core<D>, ServeError<D>>, &'w mut W)
     requires name { w.ghost_name ≡ B.name }
-    requires start { B.start ≡ Some (record { core = core; places = workers; input = R.remaining r.old; before = W.contents w.now }) }
+    requires start { B.start
+        ≡ Some (record { core = core; places = workers; every = every; input = R.remaining r.old; before = W.contents w.now }) }
     requires idle { IsIdle (core_state_of core) }
     requires works { core.failed ≡ false }
     requires few { workers ≤ MOST_WORKERS }

@@ -3,7 +3,7 @@ use Rattle.std.proofs.Common.{refl}
 use Rattle.serving.specs.Exchange.{exchange}
 use Rattle.commands.specs.Faults.{command_result}
 use Rattle.commands.proofs.Acknowledged.{keeps_acknowledged}
-use Rattle.commands.proofs.KeepsPromise.{run_keeps_promise}
+use Rattle.commands.proofs.KeepsPromise.{opened_server, opening_keeps_promise, opens_server, run_keeps_promise}
 use Rattle.commands.proofs.Promise.{leaves_recovered, leaves_run}
 use Rattle.commands.proofs.ServedDevice.{ends_on_device, crashes_safely, has_served_by}
 use Rattle.commands.proofs.serve.serve_on.Goals as goal
@@ -11,6 +11,13 @@ use Rattle.commands.proofs.serve.serve_on.Goals as goal
 pub returns-in-Err-clause-ends : goal.returns-in-Err-clause-ends
 returns-in-Err-clause-ends g c = rw c.from-in-Err.ensures
     ((λ k. (c.in-Err.ensures.refused k, c.in-Err.ensures.unwritten k)), refl, refl, c.in-Err.ensures.device)
+
+pub returns-in-Err-clause-opens : goal.returns-in-Err-clause-opens
+returns-in-Err-clause-opens g c keep geometry server held = opens_server keep geometry server (g.D.Disk.medium c.args.disk) held c.args.service _ _ _
+    (g.met.D.Disk.bytes c.args.disk) (returns-in-Err-clause-ends g c)
+
+pub returns-in-Err-clause-kept : goal.returns-in-Err-clause-kept
+returns-in-Err-clause-kept g c = rw c.from-in-Err.ensures refl
 
 pub returns-in-Err-clause-goes_on : goal.returns-in-Err-clause-goes_on
 returns-in-Err-clause-goes_on g c =
@@ -22,15 +29,25 @@ returns-in-Err-clause-goes_on g c =
     (g.met.D.Disk.bytes c.args.disk) ((λ k. (refused.refused k, refused.unwritten k)), refl, refl, refused.device) refused.any_moment refl)
 
 pub returns-in-Err-clause-promise : goal.returns-in-Err-clause-promise
-returns-in-Err-clause-promise g c keep geometry crashed leaves = run_keeps_promise geometry c.args.service.slots (g.D.Disk.medium c.args.disk)
-    (g.D.Disk.medium c.in-Err.error.disk) _ (g.R.Read.remaining c.args.r.now) (g.W.Write.contents c.args.w.now) (g.W.Write.contents c.args.w.now)
-    crashed (returns-in-Err-clause-goes_on g c keep geometry) leaves
+returns-in-Err-clause-promise g c keep synced geometry server crashed held leaves =
+    let input = g.R.Read.remaining c.args.r.now in
+    let before = g.W.Write.contents c.args.w.now in
+    run_keeps_promise keep geometry server (g.D.Disk.medium c.args.disk) held synced crashed c.args.service (g.D.Disk.medium c.in-Err.error.disk) _
+    (exchange input input before before) leaves (returns-in-Err-clause-ends g c) (returns-in-Err-clause-kept g c) (returns-in-Err-clause-goes_on g c keep geometry)
+
+pub run_opened-core-requires-clause-fresh : goal.run_opened-core-requires-clause-fresh
+run_opened-core-requires-clause-fresh g c = λ lifetimes bounds. rw c.from.ensures at c.in-Ok.ensures.opened
 
 pub run_opened-core-requires-clause-opened : goal.run_opened-core-requires-clause-opened
-run_opened-core-requires-clause-opened g c = λ lifetimes bounds. rw c.of-found.ensures (record {
-  fresh = rw c.from.ensures at c.in-Ok.ensures.opened;
-  recovered_before = record { header = c.in-Ok.ensures.header; recovered_before = c.in-Ok.ensures.recovered_before };
-})
+run_opened-core-requires-clause-opened g c = λ lifetimes bounds. rw c.of-found.ensures (λ keep geometry server held.
+    let own = opened_server keep geometry server (g.D.Disk.medium c.args.disk) held c.in-Ok.core
+    (record { header = c.in-Ok.ensures.header; recovered_before = c.in-Ok.ensures.recovered_before }) in
+    (own.0, (rw c.from.ensures at c.in-Ok.ensures.opened).slots_are, own.1))
+
+pub run_opened-core-requires-clause-opening : goal.run_opened-core-requires-clause-opening
+run_opened-core-requires-clause-opening g c = λ lifetimes bounds. rw c.of-found.ensures (λ keep synced geometry server crashed held since.
+    opening_keeps_promise keep geometry server (g.D.Disk.medium c.args.disk) held synced crashed c.args.service.slots c.in-Ok.core.medium _ _
+    (c.in-Ok.ensures.any_moment keep) since)
 
 pub returns : goal.returns
 returns g c =
@@ -53,7 +70,9 @@ returns g c =
       crash_safe = crashes_safely end by;
       kept = keeps_acknowledged end by;
       recovers = leaves_recovered end by;
-      promise = λ keep geometry crashed leaves. run_keeps_promise geometry service.slots old now.medium (command_result end) streams.input
-          streams.before streams.written crashed (goes_on keep geometry) leaves;
+      promise = λ keep synced geometry server crashed held leaves. run_keeps_promise keep geometry server old held synced crashed service now.medium
+          (command_result end) streams leaves ends (keeps_acknowledged end by) (goes_on keep geometry);
+      opens = λ keep geometry server held. opens_server keep geometry server old held service now.medium (command_result end) streams
+          (g.met.D.Disk.bytes c.args.disk) ends;
       goes_on = goes_on;
     })

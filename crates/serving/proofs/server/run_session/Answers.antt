@@ -38,6 +38,7 @@ returns g c =
     let s : Start = record {
       core = c.args.core;
       places = c.args.memory.bench.slots;
+      every = c.args.trigger.every;
       input = g.R.Read.remaining c.args.reader.now;
       before = g.L.ReplySink.sent c.args.sink;
     } in

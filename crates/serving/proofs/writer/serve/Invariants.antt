@@ -8,6 +8,7 @@ ghosts-with_writer g a = record {
   start = Some (record {
     core = a.core;
     places = a.workers;
+    every = a.every;
     input = g.R.Read.remaining a.r.now;
     before = g.W.Write.contents a.w.now;
   });

@@ -15,7 +15,7 @@ invariant_of-self g c =
     let quiet = cut_is_quiet g.D.Disk.keeps old new c.cut.ensures.geometry c.cut.ensures.any_moment c.cut.result
     (cut_called old.geometry (core_state_of old) (core_state_of new) c.cut.result c.cut.ensures.state_after) c.cut.ensures.counts c.cut.ensures.untouched in
     record {
-      run = on_trigger g.D.Disk.keeps _ _ (on_machine g.D.Disk.keeps _ _ c.self.invariant.run _ _ (quiet _ (holds_of g.D.Disk.keeps _ _ c.self.invariant.run)) refl refl) _;
+      run = on_trigger g.D.Disk.keeps _ _ (on_machine g.D.Disk.keeps _ _ c.self.invariant.run _ _ (quiet _ (holds_of g.D.Disk.keeps _ _ c.self.invariant.run)) refl refl) _ c.restart.ensures.0;
       bench = c.self.invariant.bench;
     }
 

@@ -4,7 +4,7 @@ use Rattle.std.proofs.lemmas.List.{length-set}
 use Rattle.parcel.specs.JobRun.{JobView}
 use Rattle.serving.specs.View.{session_view}
 use Rattle.serving.specs.SessionSteps.{HasMoved}
-use Rattle.serving.specs.Session.{SessionView}
+use Rattle.serving.specs.Session.{SessionView, steps_ahead}
 use Rattle.serving.proofs.Collected.{came_back, gives_back}
 use Rattle.serving.proofs.StepsAhead.{returned}
 use Rattle.serving.proofs.SessionInvariant.{holds_of, on_machine}
@@ -40,3 +40,13 @@ returns-clause-moves g c =
     let new = session_view g.R.Read.remaining g.L.ReplySink.sent g.L.ReplySink.sent_at (record old { core = c.give_back.new.self; dispatch_seat = c.collect.new.seat }) in
     subst (λ (p : SessionView). HasMoved p new) c.self.view_is
     (record { moved = inl less.0; pieces_left = less.1; trigger = refl; as_before = (refl, refl); unread = (refl, refl) })
+
+pub returns-clause-some : goal.returns-clause-some
+returns-clause-some g c =
+    let s = c.in-Some.ensures.some in
+    let old = c.self.inside in
+    let place = subst (λ (p : SessionView). c.args.k < length p.dispatch_seat.lent) (sym c.self.view_is) c.requires.place in
+    let back = c.give_back.ensures.state_after in
+    let less = returned old.core.geometry c.args.k _ _ old.dispatch_seat.lent _ _ back.0 place back.1 back.3 s.3 in
+    let new = session_view g.R.Read.remaining g.L.ReplySink.sent g.L.ReplySink.sent_at (record old { core = c.give_back.new.self; dispatch_seat = c.collect.new.seat }) in
+    subst (λ (p : SessionView). steps_ahead new < steps_ahead p) c.self.view_is less.0

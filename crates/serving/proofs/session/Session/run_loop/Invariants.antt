@@ -1,8 +1,8 @@
--- Where the last turn was idle, nothing is left to do but to read.
+-- Where the next turn is told that the last one was idle, nothing is left to do but to read.
 use Rattle.std.proofs.Common.{◌≡◌}
 use Rattle.serving.specs.SessionSteps.{IsResting}
 use Rattle.serving.specs.declared.session.Activity.TheVariants as activities
 use Rattle.serving.proofs.session.Session.run_loop.Given as goal
 
 abbrev pub invariant-loop : goal.invariant-loop
-invariant-loop g l = l.last ≡ activities.Idle → IsResting l.self
+invariant-loop g l = l.told.last ≡ activities.Idle → IsResting l.self

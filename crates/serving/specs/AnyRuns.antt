@@ -1,8 +1,8 @@
 -- Statement for clients: What is promised of any number of servers on one device, each on what a crash of the one before left of it.
 use Rattle.std.specs.Prelude.{[], ◌≡◌, ◌≤◌, ℕ, ◌+◌, ◌==◌, Bool, true, List, ◌∷◌, ◌++◌, count_by, map, take, Option, Some}
-use Rattle.disk.specs.Device.{IsSynced, Medium}
+use Rattle.std.specs.Io.KnownBytes.{Appends}
+use Rattle.std.specs.List.{flat_map}
 use Rattle.protocol.specs.Lines.{lines}
-use Rattle.meaning.specs.Output.{joined}
 use Rattle.meaning.specs.ClosedPart.{IsPartOf}
 
 -- ---- a serial server
@@ -49,7 +49,7 @@ pub record Did (conflict : List ℕ → List ℕ → Bool) (run : Run) (answered
   -- What came out is a beginning of the answers; if the run finished, all of them, to all lines.
   pub missing : List ℕ
   pub unanswered : List (List ℕ)
-  pub out : joined (answers_in answered) ≡ run.out ++ missing
+  pub out : flat_map (λ bytes. bytes) (answers_in answered) ≡ run.out ++ missing
   pub first : lines run.input ≡ lines_in answered ++ unanswered
   pub finished : run.finished ≡ true → (missing ≡ []) × (unanswered ≡ [])
   -- So many of the unanswered lines were read. They, and those whose answers did not come out whole, each had a slot.
@@ -63,14 +63,16 @@ abbrev pub Serves : (List ℕ → Option Server) → (List ℕ → List ℕ → 
 Serves recover conflict server run = (answered : List Operation) × (made : List Operation) × Did conflict run answered made
     × AreAnsweredBy server (answered ++ made) × (recover run.left ≡ Some (after (lines_in (answered ++ made)) server))
 
--- The promise, by what a contract knows of a run. It began on a device that held a server, with nothing unsynced, and its input and what
--- its output held `before` are known. Then the output has grown by what came out of the run, behind which a crash left these bytes.
-abbrev pub KeepsPromise : (List ℕ → Option Server) → (List ℕ → List ℕ → Bool) → ℕ → Medium → Option (List ℕ) → Bool
-    → Option (List ℕ) → Option (List ℕ) → List ℕ → Type 0
-KeepsPromise recover conflict slots device input finished before written left = (server : Server) (bytes held : List ℕ)
-    → recover device.now ≡ Some server → IsSynced device → input ≡ Some bytes → before ≡ Some held
-    → (out : List ℕ) × (written ≡ Some (held ++ out)) × Serves recover conflict server
-    (record { slots = slots; input = bytes; out = out; finished = finished; left = left })
+-- The promise, by what a contract knows of a run on a device that held this server. Its output has grown by what came `out`, and the crash
+-- behind it left bytes that hold a server. Where its input is known, it has served that.
+pub record KeepsPromise (recover : List ℕ → Option Server) (conflict : List ℕ → List ℕ → Bool) (server : Server) (slots : ℕ)
+    (input : Option (List ℕ)) (finished : Bool) (before written : Option (List ℕ)) (left : List ℕ) : Type 0 where
+  pub out : List ℕ
+  pub grown : Appends before written out
+  pub now : Server
+  pub holds : recover left ≡ Some now
+  pub serves : (bytes : List ℕ) → input ≡ Some bytes
+      → Serves recover conflict server (record { slots = slots; input = bytes; out = out; finished = finished; left = left })
 
 -- ---- any number of runs
 
