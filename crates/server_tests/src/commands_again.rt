@@ -1,12 +1,15 @@
-//! Two incarnations of one device, by `serve_again`: in the first the device stops at its n-th call, for each n, and crashes; the second is
-//! asked what the crash left. The server is the small one (`SMALL`: one volume of two files of four blocks in two stripes). There are
+//! Two services on one device: during the first the device stops at its n-th call, for each n, and crashes; the second is asked what the
+//! crash left. The server is the small one (`SMALL`: one volume of two files of four blocks in two stripes). There are
 //! `KINDS` kinds of crash; `torn` gives what each leaves at the unsynced offsets.
 ghost use Rattle.std.specs.Prelude.{◌<◌};
+ghost use Rattle.disk.specs.CrashImages.{HasPattern};
 
 use crate::commands_common::System;
 use crate::serving_common::SMALL;
 use affinity::Geometry;
-use commands::{ServeOptions, serve_again};
+use checkpoint::{device_len, format};
+use commands::{Fault, ServeOptions, serve_on};
+use disk::{MemDisk, Torn};
 use harness::{KINDS, torn};
 use std::alloc::{AllocError, Global};
 use std::test::Fail;
@@ -109,6 +112,38 @@ fn asked(alloc: Global, lines: &[(&str, &str)]) -> Result<String, AllocError> {
     Ok(input)
 }
 
+/// A device in memory with the empty state.
+fn formatted(alloc: Global, geometry: Geometry) -> Result<MemDisk, Fail> {
+    let disk = MemDisk::new(alloc, device_len(&geometry))?;
+    match format(alloc, disk, geometry) {
+        Ok(disk) => Ok(disk),
+        Err(error) => Err(Fail::new(format_args!("not formatted: {}", error.fault))),
+    }
+}
+
+/// Serves the first lines with a device that stops at its n-th call and then crashes, and the next ones with what the crash left. Returns
+/// how both services ended.
+fn serve_twice<T: System>(
+    rt: &T,
+    disk: MemDisk,
+    n: u64,
+    torn: Torn,
+    r: &mut &[u8],
+    w: &mut Vec<u8>,
+    next_r: &mut &[u8],
+    next_w: &mut Vec<u8>,
+) -> (Result<(), Fault>, Result<(), Fault>)
+    requires call { 0 < n }
+    requires bytes { HasPattern torn }
+{
+    let options = ServeOptions::new(1, 4, 0);
+    let mut disk = disk;
+    disk.stop_at(n);
+    let (disk, ended) = serve_on(rt, rt.alloc(), disk, options, r, w);
+    let (_disk, next_ended) = serve_on(rt, rt.alloc(), disk.crash(torn), options, next_r, next_w);
+    (ended, next_ended)
+}
+
 /// Runs both incarnations (with one worker, four slots, and no checkpoint by a count of records): the device of the first stops at its n-th
 /// call and is torn by the crash of kind `at` (`harness::torn`). Fails unless the first wrote the answers to its first lines, to all where
 /// it had no fault, and the second had no fault and answered as the row allows after that many.
@@ -121,13 +156,11 @@ fn expect_incarnations<T: System>(rt: &T, row: &Row<'_>, n: u64, at: usize) -> R
     };
     let input = asked(rt.alloc(), lines)?;
     let (mut first, mut second) = (Vec::new(rt.alloc()), Vec::new(rt.alloc()));
-    let ends = serve_again(
+    let ends = serve_twice(
         rt,
-        rt.alloc(),
-        geometry,
+        formatted(rt.alloc(), geometry)?,
         n,
         torn(rt.alloc(), at)?,
-        ServeOptions::new(1, 4, 0),
         &mut input.as_bytes(),
         &mut first,
         &mut questions.as_bytes(),
@@ -137,7 +170,7 @@ fn expect_incarnations<T: System>(rt: &T, row: &Row<'_>, n: u64, at: usize) -> R
     let state = states
         .iter()
         .position(|state| state.0.as_bytes() == second.as_slice());
-    if let (Ok((ended, Ok(()))), Some(count), Some(state)) = (ends, count, state) {
+    if let ((ended, Ok(())), Some(count), Some(state)) = (ends, count, state) {
         let most = states.get(state).map(|found| found.1);
         if Some(count) <= most && (ended.is_err() || count == lines.len()) {
             return Ok(Found {

@@ -230,6 +230,34 @@ fn piped_input_takes_few_calls(rt: HostRuntime) -> Result<(), Fail> {
     Ok(())
 }
 
+const MANY_SLOTS: Way = Way {
+    workers: 1,
+    slots: 1024,
+    every: 0,
+};
+
+/// A line, how often it comes after a `makevol`, and how many writes and flushes the answers take at least. The answers of a batch that
+/// changed something are written at once, and a batch has one change of a label at most: so there are two calls for each line. Other
+/// answers are written once they are half as many as the slots, or up to 63 more, as a batch has 64 lines at most.
+const WRITTEN_EARLY: [(&[u8], usize, u64); 2] = [
+    (b"setlabel 0 0 61\n", 64, 128),
+    (b"label 0 0\n", 4096, 16),
+];
+
+#[test]
+fn answers_are_written_before_all_slots_are_taken(rt: HostRuntime) -> Result<(), Fail> {
+    for &(line, count, least) in &WRITTEN_EARLY {
+        let mut lines = Vec::new(rt.alloc());
+        lines.extend_from_slice(b"makevol 0 0\n")?;
+        for _ in 0..count {
+            lines.extend_from_slice(line)?;
+        }
+        let (_, writes) = calls_of(&rt, rt.alloc(), MANY_SLOTS, lines.as_slice(), 70_000)?;
+        assert_at_most(&rt, least, writes);
+    }
+    Ok(())
+}
+
 const NO_WORKERS: Way = Way {
     workers: 0,
     slots: 2,

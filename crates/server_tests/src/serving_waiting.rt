@@ -1,6 +1,6 @@
 //! A job is kept waiting in its worker until the output is written to: what is dispatched meanwhile if a checkpoint is due, and what is
-//! still logged if the output fails. Hooks of the server (`Gate`): a worker calls `before` just before it runs a job, the dispatcher
-//! `answered` just after a message is answered.
+//! still logged if the output fails. One is kept waiting until the dispatcher sleeps. Hooks of the server (`Gate`): a worker calls `before`
+//! just before it runs a job, the dispatcher `answered` just after a message is answered.
 use crate::assertions::{assert_count, assert_ended, assert_true};
 use crate::serving_common::{ALL_AT_ONCE, End, Left, SMALL, Streams, Way, serve_lines, session};
 use crate::serving_noting::{Flag, Notes};
@@ -12,8 +12,8 @@ use std::alloc::Global;
 use std::process::Abort;
 use std::sync::Wait;
 use std::test::Fail;
-use std::thread;
 use std::thread::Threads;
+use std::{fs, thread};
 use workers::Gate;
 
 /// How often a worker looks whether it may go on, before it gives up.
@@ -134,5 +134,76 @@ fn jobs_in_flight_are_logged_after_the_output_failed(rt: HostRuntime) -> Result<
     // Messages 0 and 1 have records. Message 2, which is related to 1, isn't dispatched any more.
     assert_true(&rt, seen.answered);
     assert_count(&rt, shown.records as u64, 2);
+    Ok(())
+}
+
+/// How often a worker looks whether the dispatcher sleeps, before it gives up.
+const MOST_LOOKS: u32 = 10_000;
+
+/// Keeps each job waiting in its worker until the thread of the dispatcher sleeps.
+#[derive(Drop)]
+struct Watching<'a> {
+    rt: &'a HostRuntime,
+    /// The system's file on the state of that thread.
+    stat: &'a str,
+    has_slept: Flag,
+}
+
+impl Watching<'_> {
+    /// Whether the thread sleeps: its state is the letter two places after the parenthesis behind its name.
+    fn is_asleep(&self) -> bool {
+        let Ok(stat) = fs::read(self.rt, self.stat) else {
+            return false;
+        };
+        stat.windows(3).any(|part| part == b") S".as_slice())
+    }
+}
+
+impl Gate for Watching<'_> {
+    fn before(&self, _ticket: u64) {
+        for _ in 0..MOST_LOOKS {
+            if self.is_asleep() {
+                self.has_slept.set();
+                return;
+            }
+            thread::yield_now();
+        }
+    }
+
+    fn answered(&self, _ticket: u64) {}
+}
+
+#[test]
+fn the_dispatcher_sleeps_while_a_job_runs(rt: HostRuntime) -> Result<(), Fail> {
+    let way = Way {
+        workers: 1,
+        slots: 4,
+        every: 0,
+    };
+    let device = device_with(rt.alloc(), SMALL, &[])?;
+    // The dispatcher is this thread.
+    let own = fs::read_to_string(&rt, "/proc/thread-self/stat")?;
+    let Some((number, _)) = own.split_once(' ') else {
+        return Err(Wrong::Unfit.into());
+    };
+    let stat = format!(in rt.alloc(); "/proc/self/task/{number}/stat")?;
+    let gate = Watching {
+        rt: &rt,
+        stat: stat.as_str(),
+        has_slept: Flag::new(),
+    };
+    let notes = Notes::new();
+    let left = session(
+        &rt,
+        rt.alloc(),
+        device,
+        way,
+        b"makevol 0 0\n",
+        ALL_AT_ONCE,
+        &gate,
+        &notes,
+    );
+    assert_ended(&rt, left.end, End::Whole);
+    assert_true(&rt, gate.has_slept.get());
     Ok(())
 }
