@@ -1,19 +1,19 @@
-"""Clients of the service in a guest, one after the other, and the judgement of what each one finds of those before."""
+"""Clients of the service in a guest: what each has sent, and what it has heard."""
 import collections
 import contextlib
 import random
 import threading
 import time
 
-from guest import PATIENCE
-from machine import Dead
-from meaning import empty_state, lines_that_read, state_of_replies
-from servers import COMMON, Drawing, state_left, text_of
+from tests.power.machine import Dead
+from tests.system.servers import COMMON, Drawing, text_of
+from .guest import PATIENCE
 
 SOCKET = "/run/waffd/socket"
 WINDOW = 40  # lines that a client has sent and that have no reply yet, at most
-WINDOW_OF_READS = 1000
 PROBE = "label 9 9"  # is answered by an error, as there is no such volume
+TOGETHER = 3  # lines that a steady client sends together
+PAUSE = 0.3  # seconds in between: the guest has other work, too
 MANY = 4000  # lines of a busy client: it isn't through with them before something happens to its server
 
 
@@ -72,16 +72,48 @@ class Session:
         self.socket.close()
 
 
+class Steady(Session):
+    """Goes on with a few lines at a time, in a thread of its own, until `end` or until the connection ends. It waits
+    for a reply as long as it takes."""
+
+    def __init__(self, guest, drawing):
+        super().__init__(guest)
+        self.socket.settimeout(None)
+        self.drawing = drawing
+        self.is_ending = False
+        self.moments = [time.monotonic()]  # of its replies
+        self.thread = threading.Thread(target=self.work, daemon=True)
+        self.thread.start()
+
+    def work(self):
+        while not self.is_ending and self.send(self.drawing.lines(TOGETHER)):
+            self.moments.append(time.monotonic())
+            time.sleep(PAUSE)
+
+    def waits_since(self):
+        """For how many seconds it has had no reply."""
+        return time.monotonic() - self.moments[-1]
+
+    def longest_wait(self):
+        """In seconds, over all that was answered."""
+        return max((after - before for before, after in zip(self.moments, self.moments[1:])), default=0.0)
+
+    def end(self, seconds):
+        """It sends no more. Whether it has all its replies."""
+        self.is_ending = True
+        self.thread.join(seconds)
+        return not self.thread.is_alive()
+
+
 class Clients:
-    """Clients of the servers of one device. `state` is what the last one that was judged has found there."""
+    """Clients of the servers of one device."""
 
     def __init__(self, seed):
-        self.state = empty_state(COMMON)
         self.drawing = Drawing(seed, COMMON)
         self.chance = random.Random(seed)
 
     def session(self, guests, seconds=PATIENCE):
-        """A client that has had a reply, of whichever of these guests. It keeps others waiting until it is closed."""
+        """A client that has had a reply, of whichever of these guests."""
         end = time.monotonic() + seconds
         while time.monotonic() < end:
             for guest in guests:
@@ -107,25 +139,3 @@ class Clients:
         one.thread.start()
         time.sleep(2 * self.chance.random())
         return one
-
-    def read_all(self, guests, seconds):
-        """What a next client is told of all that the server holds."""
-        one = self.session(guests, seconds)
-        skipped = len(one.heard)
-        if not one.send(lines_that_read(COMMON), WINDOW_OF_READS):
-            raise Dead("no server tells what it holds")
-        one.socket.close()
-        return one.heard[skipped:].decode().splitlines()
-
-    def look(self, guests, seconds=PATIENCE):
-        """What is found now is what has to be there from now on."""
-        self.state = state_of_replies(COMMON, self.read_all(guests, seconds))
-
-    def judge(self, guests, old, seconds=PATIENCE):
-        """What a next client finds of the one before, in words. It fails where a change is missing that was
-        acknowledged, or where something is there that nobody has made."""
-        old.socket.close()
-        told = self.read_all(guests, seconds)
-        self.state = state_left(COMMON, self.state, old.sent, old.heard, told)
-        changes = old.heard.count(b"done\n")
-        return f"none missing of {changes} changes, {old.answered} of {len(old.sent)} lines answered"

@@ -1,18 +1,21 @@
 """A guest with Debian under QEMU, on a disk that ./image has made. Its host, which is here, runs commands in it, talks
-to sockets in it, and cuts its power.
+to sockets in it, and cuts its power. It can be frozen while it runs: its memory is kept, and thawed it goes on from
+there.
 
 A slow or busy host needs more patience: SLOW=3 in the environment waits three times as long.
 """
+import collections
 import contextlib
 import json
 import os
+import shutil
 import socket
 import subprocess
 import sys
 import time
 
-from agent import PORT
-from machine import COMMAND_LINE, Dead, emulator
+from tests.power.machine import COMMAND_LINE, Dead, emulator
+from .agent import PORT
 
 SLOW = float(os.environ.get("SLOW", "1"))
 PATIENCE = 300 * SLOW  # seconds for a command
@@ -21,21 +24,25 @@ PROCESSOR = "Nehalem"  # x86-64-v2, which is what the program needs
 ADDRESS = "52:54:00:00:00:01"  # of the network card towards the host: ./image configures it by this address
 PACKAGES = {"qemu-system-x86_64": "qemu-system-x86", "qemu-img": "qemu-utils", "ip": "iproute2"}
 
+# What a guest is made of: its memory, its processors, further words of QEMU and of the kernel.
+Build = collections.namedtuple("Build", "mebibytes processors words kernel", defaults=(512, 2, (), ""))
+
 
 class Guest:
     """A guest on the disk of the folder `image`, which stays as it is: what this guest changes is in `folder`. `disks`
-    are the files of further disks, in order, `more` further words of QEMU. A port of the host leads to the agent."""
+    are its further ones, in order. A port of the host, 7000 and its number, leads to the agent."""
 
-    def __init__(self, folder, name, image, port, disks=(), more=(), mebibytes=512, processors=2):
+    def __init__(self, folder, name, image, number, disks=(), build=Build()):
         self.folder = folder
         self.name = name
         self.image = image
-        self.port = port
+        self.port = PORT + number
         self.disks = list(disks)
-        self.more = more
-        self.size = (mebibytes, processors)
+        self.build = build
+        self.clock = None  # says what its clock shows when it is switched on, unless that is the host's time
+        self.has_fence = False  # whether another one may cut its power, and give it power again
         self.qemu = None
-        self.root = f"{folder}/{name}.qcow2"
+        self.root = self.at("qcow2")
         below = ("-b", f"{image}/root.img", "-F", "raw")
         subprocess.run(["qemu-img", "create", "-q", "-f", "qcow2", *below, self.root], check=True)
 
@@ -44,29 +51,27 @@ class Guest:
         return f"{self.folder}/{self.name}.{what}"
 
     def command(self):
-        """The words of QEMU. The disks are files of a host that goes on, so a cut of the power takes away nothing that
-        they have been given; tests/power has disks that lose what wasn't flushed."""
-        mebibytes, processors = self.size
+        """The words of QEMU. The disk of the system is a file of a host that goes on, so it keeps what it has been
+        given; the others lose what wasn't flushed."""
+        words = f"root=/dev/vda rw {COMMAND_LINE} systemd.hostname={self.name} {self.build.kernel}"
         found = [
-            *emulator(PROCESSOR, mebibytes, processors, translated=256),
+            *emulator(PROCESSOR, self.build.mebibytes, self.build.processors, translated=256),
             "-serial", f"file:{self.at('console')}",
             "-kernel", f"{self.image}/kernel",
             "-initrd", f"{self.image}/initrd",
-            "-append", f"root=/dev/vda rw {COMMAND_LINE} systemd.hostname={self.name}",
+            "-append", words,
             "-qmp", f"unix:{self.at('qmp')},server=on,wait=off",
             "-device", "virtio-rng-pci",
             "-netdev", f"user,id=host,hostfwd=tcp:127.0.0.1:{self.port}-:{PORT}",
             "-device", f"virtio-net-pci,netdev=host,mac={ADDRESS},romfile=",
-            *self.more]
-        found += self.disk("root", self.root, "format=qcow2,cache=unsafe")
-        for number, path in enumerate(self.disks):
-            found += self.disk(f"disk{number}", path, "format=raw,cache=writeback")
+            *self.build.words,
+            "-drive", f"file={self.root},if=none,id=root,format=qcow2,cache=unsafe",
+            "-device", "virtio-blk-pci,drive=root"]
+        if self.clock:
+            found += ["-rtc", f"base={self.clock().isoformat(timespec='seconds')}"]
+        for number, disk in enumerate(self.disks):
+            found += disk.begin(f"disk{number}")
         return found
-
-    @staticmethod
-    def disk(name, path, options):
-        """The words of QEMU for a disk."""
-        return ["-drive", f"file={path},if=none,id={name},{options}", "-device", f"virtio-blk-pci,drive={name}"]
 
     # ---- its power
 
@@ -75,13 +80,20 @@ class Guest:
         self.start()
         return self.wait_up()
 
-    def start(self):
+    def start(self, *more):
+        """With more words of QEMU."""
         with open(self.at("qemu"), "ab") as told:
-            self.qemu = subprocess.Popen(self.command(), stdin=subprocess.DEVNULL, stdout=told, stderr=told)
+            self.qemu = subprocess.Popen(
+                [*self.command(), *more], stdin=subprocess.DEVNULL, stdout=told, stderr=told)
+
+    def is_on(self):
+        qemu = self.qemu  # another thread may change it
+        return qemu is not None and qemu.poll() is None
 
     def wait_up(self):
+        """How many seconds it takes until it runs commands."""
         began = time.monotonic()
-        while time.monotonic() < began + BOOT and self.qemu.poll() is None:
+        while time.monotonic() < began + BOOT and (self.is_on() or self.has_fence):
             with contextlib.suppress(OSError, ValueError):
                 self.run("true", patience=10)
                 return time.monotonic() - began
@@ -160,6 +172,42 @@ class Guest:
                 while "event" in answer:
                     answer = json.loads(file.readline())
         return answer
+
+    def wait_for_qemu(self, command, is_done, seconds=PATIENCE):
+        """Waits until this holds of what QEMU answers."""
+        end = time.monotonic() + seconds
+        answer = None
+        while time.monotonic() < end:
+            try:
+                answer = self.ask_qemu(command)["return"]
+                if is_done(answer):
+                    return
+            except (OSError, ValueError, KeyError) as problem:
+                answer = problem
+            time.sleep(0.1)
+        raise Dead(f"{self.name}: {command}: {answer}")
+
+    def freeze(self, folder):
+        """Once it stands still: keeps its memory and its disks in this folder, and ends QEMU."""
+        self.ask_qemu("migrate-set-parameters", **{"max-bandwidth": 1 << 32})
+        self.ask_qemu("migrate", uri=f"exec:cat >{folder}/{self.name}.memory")
+        self.wait_for_qemu("query-migrate", lambda answer: answer.get("status") == "completed")
+        self.cut()
+        for disk in self.disks:
+            disk.settle()
+        for path in self.paths():
+            shutil.copy(path, folder)
+
+    def thaw(self, folder):
+        """Starts QEMU with what was kept in this folder. It stands still then."""
+        for path in self.paths():
+            shutil.copy(f"{folder}/{os.path.basename(path)}", path)
+        self.start("-S", "-incoming", f"exec:cat {folder}/{self.name}.memory")
+        self.wait_for_qemu("query-status", lambda answer: answer["status"] == "paused")
+
+    def paths(self):
+        """The files of all its disks."""
+        return [self.root, *(disk.path for disk in self.disks)]
 
 
 def go_alone():

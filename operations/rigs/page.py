@@ -1,40 +1,30 @@
-"""The files and the commands of the pages on failover: what is run is what they say."""
+"""The commands and the files of a page: what is run is what it says."""
+import io
 import os
 import re
+import tarfile
 import textwrap
 
-from program import TOP, bytes_of
+from tests.system.program import PROGRAM, TOP, bytes_of
 
 BLOCK = re.compile(r"(?:^    .*\n|^\n(?=    ))+", re.M)  # lines that are indented, with empty ones in between
-
-# What emulation needs beyond what the page has. A guest is some 50 times as slow as a machine, so it needs longer
-# timeouts; and `ipmi_sim` doesn't tell which cipher suites it has.
-LONGER = " ".join(f"pcmk_{action}_timeout=120s" for action in ("reboot", "off", "on", "status", "monitor"))
-BEGIN = "pcs cluster cib new.xml\n"
-PUSH = "pcs cluster cib-push"
-EMULATED = {
-    "cluster_name: waffd\n": "cluster_name: waffd\n    token: 10000\n",
-    "lanplus=1": f"lanplus=1 cipher=3 {LONGER}",
-    BEGIN: (f"{BEGIN}pcs -f new.xml property set stonith-timeout=180s\n"
-            "pcs -f new.xml resource op defaults update timeout=300s\n"),
-    PUSH: f"sed -i -E 's/ timeout=\"[0-9]{{2,3}}s?\"/ timeout=\"600s\"/' new.xml\n{PUSH}",
-}
-
-
-def emulated(text):
-    """A file or commands of the page with what emulation needs."""
-    for short, long in EMULATED.items():
-        text = text.replace(short, long)
-    return text
+INSTALLED = re.compile(r"^ +install -D -m \d+ (\S+) (\S+)$", re.M)
+BUILT = "crates/waffd/out/waffd"
 
 
 class Page:
-    """The pages that an operator works by, as one text."""
+    """Pages of the repository as one text. What an operator has to change is changed in each block, as `changes` has
+    it."""
 
-    PAGES = ("failover.md", "failover-operating.md")
+    def __init__(self, *paths, changes=()):
+        self.text = "".join(bytes_of(os.path.join(TOP, path)).decode() for path in paths)
+        self.changes = changes
 
-    def __init__(self):
-        self.text = "".join(bytes_of(os.path.join(TOP, "docs", name)).decode() for name in self.PAGES)
+    def changed(self, block):
+        text = textwrap.dedent(block).strip("\n") + "\n"
+        for old, new in self.changes:
+            text = text.replace(old, new)
+        return text
 
     def blocks(self, after, count):
         """So many blocks behind these words, which may be on two lines."""
@@ -42,11 +32,19 @@ class Page:
         found = BLOCK.findall(self.text[words.end():])[:count] if words else []
         if len(found) < count:
             raise ValueError(f"no page has such a block behind {after!r}")
-        return [emulated(textwrap.dedent(block).strip("\n") + "\n") for block in found]
+        return [self.changed(block) for block in found]
 
     def block(self, after):
         """The first one."""
         return self.blocks(after, 1)[0]
+
+    def below(self, heading, number):
+        """The block of this number below a heading, before the next one."""
+        part = re.search(rf"^#+ {re.escape(heading)}\n(.*?)(?=^#+ |\Z)", self.text, re.M | re.S)
+        found = BLOCK.findall(part[1]) if part else []
+        if len(found) <= number:
+            raise ValueError(f"no page has block {number} below {heading!r}")
+        return self.changed(found[number])
 
     def command(self, begin):
         """The command in a sentence that begins so."""
@@ -59,3 +57,16 @@ class Page:
     def file(self, path):
         """The file that the page has for this path: the block behind its name and a colon."""
         return self.block(f"`{path}`:").encode()
+
+    def installed(self):
+        """What is installed: each file of the repository, and where it comes to be."""
+        return INSTALLED.findall(self.text)
+
+    def bring(self, guest):
+        """Puts what is installed into the folder `repository` of a guest."""
+        data = io.BytesIO()
+        with tarfile.open(fileobj=data, mode="w") as tar:
+            for name, _ in self.installed():
+                tar.add(os.path.realpath(PROGRAM if name == BUILT else os.path.join(TOP, name)), name)
+        guest.put("/root/repository.tar", data.getvalue())
+        guest.does("mkdir -p repository && tar -xf repository.tar -C repository")
