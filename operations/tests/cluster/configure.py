@@ -1,36 +1,17 @@
-"""Configures two fresh machines as docs/failover.md says, by its own files and commands."""
+"""Configures two fresh machines as operations/failover.md says, by its own files and commands."""
 import concurrent.futures
-import io
 import re
-import tarfile
 import time
 
-from machine import Dead
-from machines import NUMBERS
-from page import Page
-from program import PROGRAM, TOP
-from state import PATIENCE, View
+from tests.power.machine import Dead
+from .emulation import pages
+from .machines import NUMBERS
+from .state import PATIENCE, View
 
-# What the page takes from the top of the repository.
-TAKEN = {
-    "crates/waffd/out/waffd": PROGRAM,
-    "examples/service/front.py": f"{TOP}/examples/service/front.py",
-    "examples/service/waffd.service": f"{TOP}/examples/service/waffd.service",
-    "examples/client/client.py": f"{TOP}/examples/client/client.py",
-}
 LINK_FILE = "/etc/systemd/network/05-link.network"
 # The way to the fence devices, which are at the host. And a guest's card has the name that its bus gives it.
 HOST_FILE = "/etc/systemd/network/host.network"
 WAY_TO_THE_HOST = "\n[Route]\nDestination=192.0.2.0/24\nGateway=10.0.2.2\n"
-
-
-def archive():
-    """What of the repository is taken, as a tar."""
-    data = io.BytesIO()
-    with tarfile.open(fileobj=data, mode="w") as tar:
-        for name, path in TAKEN.items():
-            tar.add(path, name)
-    return data.getvalue()
 
 
 class Setup:
@@ -40,7 +21,7 @@ class Setup:
         self.machines = cluster.machines
         self.view = View(cluster, tell)
         self.tell = tell
-        self.page = Page()
+        self.page = pages()
 
     def run(self):
         self.on_both(self.prepare)
@@ -60,8 +41,7 @@ class Setup:
     def prepare(self, name, one):
         """What a fresh machine has before the page begins: the files of the repository, and a way to the fence
         devices."""
-        one.put("/root/taken.tar", archive())
-        one.does("mkdir -p taken && tar -xf taken.tar -C taken")
+        self.page.bring(one)
         one.does(f"echo '{WAY_TO_THE_HOST}' >>{HOST_FILE}")
         self.tell(f"{name} has the files of the repository")
 
@@ -75,7 +55,7 @@ class Setup:
         one.does("\n".join(["set -e", *commands, "networkctl reload"]))
         for path in ("/etc/corosync/corosync.conf", "/etc/drbd.conf"):
             one.put(path, self.page.file(path))
-        self.tell(one.does("cd taken && set -e\n" + self.page.block("it is the same on both:")))
+        self.tell(one.does("cd repository && set -e\n" + self.page.block("it is the same on both:")))
 
     def make_device(self, one):
         def are_connected():

@@ -5,13 +5,14 @@ import random
 import re
 import time
 
-from clients import Steady
-from link import OTHER, Cut
-from machine import Dead
-from machines import Cluster
-from page import Page
-from sessions import Clients
-from state import PATIENCE, PAUSE, SLOW, View
+from tests.power.machine import Dead
+from ...rigs.client import Clients, Steady
+from ...rigs.judge import Judge
+from ...rigs.link import OTHER, Cut
+from ...rigs.report import Report
+from .emulation import pages
+from .machines import Cluster
+from .state import PATIENCE, PAUSE, SLOW, View
 
 SOME_SECONDS = 5 * SLOW  # that something goes on
 BLOCKED_SECONDS = 60 * SLOW  # that a machine is watched which must do nothing
@@ -32,27 +33,19 @@ class Violation(Exception):
     """An acknowledged change is missing, one is there that nobody has made, or a machine does what it must not."""
 
 
-class Chain:
+class Chain(Report):
     """Begins with two machines that are in sync, of which one serves."""
 
-    def __init__(self, folder, image, seed, name="chain"):
-        self.name = f"{name}, seed {seed}"
-        self.began = time.monotonic()
+    def __init__(self, folder, image, seed):
+        super().__init__()
         self.counts = collections.Counter()
         self.times = collections.defaultdict(list)
         self.chance = random.Random(f"cluster {seed}")
         self.clients = Clients(seed)
-        self.cluster = Cluster(folder, image, self.tell)
+        self.judgement = Judge(self.clients)
+        self.cluster = Cluster(folder, image, seed, self.tell)
         self.machines = self.cluster.machines
         self.view = View(self.cluster, self.tell)
-
-    def tell(self, text):
-        print(f"{time.monotonic() - self.began:7.1f} {self.name}: {text}", flush=True)
-
-    def check(self, what, is_right, found=""):
-        """A line for what was looked at."""
-        self.counts["passed" if is_right else "failed"] += 1
-        self.tell(f"{'ok     ' if is_right else 'FAILED '}{what}{'' if is_right else f': {found}'}")
 
     # ---- the machines
 
@@ -103,7 +96,7 @@ class Chain:
     def judge(self, what, client, name):
         """What the next client at this machine finds."""
         try:
-            found = self.clients.judge([self.machines[name]], client, PATIENCE)
+            found = self.judgement.judge([self.machines[name]], client, PATIENCE)
         except AssertionError as problem:
             raise Violation(f"{what}: {problem}") from problem
         self.counts["changes acknowledged"] += client.heard.count(b"done\n")
@@ -263,12 +256,12 @@ class Chain:
         client = self.steady(name)
         time.sleep(SOME_SECONDS)
         began = time.monotonic()
-        self.machines[name].does(Page().command("pcs resource disable waffd"), PATIENCE)
+        self.machines[name].does(pages().command("pcs resource disable waffd"), PATIENCE)
         shown = self.machines[name].run("systemctl is-active waffd")[1]
         self.check("it has stopped", shown == "inactive\n", shown)
         shown = self.machines[name].does("/usr/local/bin/waffd show /srv/waffd/device")
         self.check("it has ended in order: no record is left", "records 0\n" in shown, shown)
-        self.machines[name].does(Page().command("pcs resource enable waffd"))
+        self.machines[name].does(pages().command("pcs resource enable waffd"))
         self.goes_on("stopped and started", client, began, name)
 
     def stop_all(self):
@@ -332,7 +325,7 @@ class Chain:
         self.watch_alone(name)
         self.cluster.broken = {other}
         began = time.monotonic()
-        first, second = (block.replace("DEAD", other) for block in Page().blocks("say so on this one", 2))
+        first, second = (block.replace("DEAD", other) for block in pages().blocks("say so on this one", 2))
         self.machines[name].does(first)
         if not self.view.waits_for(f"{other} counts as off", lambda: f"OFFLINE: [ {other} ]" in self.view.crm(name)):
             raise Dead(self.view.crm(name))
@@ -375,7 +368,7 @@ class Chain:
     def fail(self, failure):
         """One of these, and then both have to come back in sync."""
         name = failure.__name__
-        self.tell(f"---- {name}")
+        self.say(f"---- {name}")
         failure(self)
         self.wait_until_whole(name)
 

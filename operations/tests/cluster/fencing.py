@@ -7,7 +7,7 @@ import socketserver
 import subprocess
 import threading
 
-from program import bytes_of, put_bytes
+from tests.system.program import bytes_of, put_bytes
 
 HERE = os.path.dirname(os.path.realpath(__file__))
 ADDRESSES = {"alpha": "192.0.2.1", "beta": "192.0.2.2"}  # as the page has them
@@ -43,8 +43,8 @@ class Bmc:
 
 
 class Power:
-    """Listens for `tests/cluster/power`. `is_on(name)` says whether a machine has power, `switch(name, on)` gives it
-    power or cuts it. One thread does it for all questions, as QEMU ends with the thread that has started it."""
+    """Listens for the script `power`. `is_on(name)` says whether a machine has power, `switch(name, on)` gives it power
+    or cuts it. One thread does it for all questions, as QEMU ends with the thread that has started it."""
 
     def __init__(self, folder, is_on, switch):
         self.is_on = is_on

@@ -3,10 +3,10 @@ the right configuration are in every chain."""
 import collections
 import time
 
-from failovers import SOME_SECONDS, Violation
-from link import OTHER, Cut
-from machine import Dead
-from state import SLOW
+from tests.power.machine import Dead
+from ...rigs.link import OTHER, Cut
+from .failovers import SOME_SECONDS, Violation
+from .state import SLOW
 
 # What is made wrong by commands on both machines, or on the one that serves; by which failure it is found.
 Case = collections.namedtuple("Case", "name failure everywhere once lies", defaults=("", "", False))

@@ -3,9 +3,9 @@ import contextlib
 import re
 import time
 
-from guest import SLOW
-from machine import Dead
-from sessions import SOCKET
+from tests.power.machine import Dead
+from ...rigs.client import SOCKET
+from ...rigs.guest import SLOW
 
 PATIENCE = 1200 * SLOW  # seconds until the machines have done what they have to
 LOOK = 20 * SLOW  # seconds for a look at a machine, which may be busy or not up yet

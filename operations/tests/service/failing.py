@@ -1,7 +1,7 @@
 """Parts of the trial: kills, stops, statuses, a full disk, failed syncs, cuts of the power, a disk that isn't there."""
 import time
 
-from trial import DEVICE, FAULT, LOCK, PROGRAM_THERE
+from .trial import DEVICE, FAULT, LOCK, PROGRAM_THERE
 
 SECTORS = "$(blockdev --getsz /dev/vdb)"
 FAULT_LINE = "waffd: device fault"
@@ -42,7 +42,7 @@ def twice(trial):
     guest = trial.guest
     guest.does("systemctl stop waffd; systemctl start waffd & systemctl start waffd; wait")
     trial.equals("two starts at once make one server", guest.does("pgrep -c -x waffd"), "1\n")
-    guest.does("sed 's/=waffd$/=other/; s|/run/waffd/socket|/run/other/socket|; s/User=other/User=waffd/'"
+    guest.does("sed 's/=waffd$/=other/; s|/run/waffd/|/run/other/|g; s/User=other/User=waffd/'"
                " /etc/systemd/system/waffd.service >/etc/systemd/system/other.service; systemctl daemon-reload")
     end = guest.run("systemctl start other")
     found = trial.shows("ActiveState", "ExecMainStatus", "NRestarts", unit="other")

@@ -1,11 +1,12 @@
 """Parts of the trial: the service is installed, installed again, upgraded, copied, restored and undone, as the page
 says, with cuts of the power."""
 import re
-import time
 
-from program import PROGRAM, bytes_of
-from sessions import SOCKET
-from trial import BACK_UP, DEVICE, FAULT, INSTALL, LOCK, PROGRAM_THERE, TALK, UNIT
+from tests.system.program import PROGRAM, bytes_of
+from ...rigs.client import SOCKET
+from .trial import (
+    BACK_UP, DEVICE, DRILL, FAULT, GO_BACK, INSTALL, LINES, LOCK, PROGRAM_THERE, RESTORE, RESTORE_LINES, TALK, UNIT,
+    UPGRADE)
 
 FORMATTED = "formatted 1332608"
 SOON = 15  # seconds from the page's commands to a cut of the power: the kernel writes files back after 30
@@ -51,7 +52,7 @@ def hardened(trial):
     trial.tell(told)
     found = re.search(r"Overall exposure level for waffd.service: ([0-9.]+)", told)
     trial.check("systemd-analyze finds little exposure", found and float(found[1]) < MOST_EXPOSURE, told)
-    trial.check("it is what the page says", f"an exposure of {found[1]}." in trial.page, found[1])
+    trial.check("it is what the page says", f"an exposure of {found[1]}." in trial.page.text, found[1])
     for name, pid in (("the server", trial.pid()), ("the front", trial.front())):
         told = trial.guest.does(f"cat /proc/{pid}/status")
         is_bare = all(re.search(fact, told, re.M) for fact in BARE)
@@ -88,13 +89,13 @@ def idle(trial):
     """The limit for a client that says nothing, as the page tells to set it."""
     command = trial.guest.does("grep -A 3 ^ExecStart= /etc/systemd/system/waffd.service").partition("\nExecStopPost")[0]
     first = trial.through()
-    trial.check("without the limit a silent client keeps its place", not first.hears_its_end(20))
+    trial.check("without the limit a silent client stays connected", not first.hears_its_end(20))
     trial.judge("its lines", first)
-    with trial.edited("ExecStart=\n" + command.replace("front.py /run", "front.py --idle 5 /run")):
+    with trial.edited("ExecStart=\n" + command.replace("front.py ", "front.py --idle 5 ")):
         trial.guest.does("systemctl restart waffd")
         first = trial.through()
         second = trial.session()
-        trial.check("with it another client is let in", second.answered == 1)
+        trial.check("with it another client is answered", second.answered == 1)
         trial.check("and the connection of the silent one has ended", first.hears_its_end(60))
         second.socket.close()
         trial.judge("what it had sent", first)
@@ -142,7 +143,7 @@ def upgrade(trial):
     """The page's one command, with the power cut right behind it."""
     trial.guest.put("/root/repository/crates/waffd/out/waffd", bytes_of(PROGRAM) + b"a later version")
     one = trial.busy()
-    trial.equals("the page's command upgrades it, and prints nothing", trial.page_does(BACK_UP, 2), (0, ""))
+    trial.equals("the page's command upgrades it, and prints nothing", trial.page_does(UPGRADE), (0, ""))
     trial.equals("the later program runs", trial.guest.run(IS_NEW), (0, ""))
     one.thread.join()
     trial.judge("upgraded while a client's lines go on", one)
@@ -150,7 +151,7 @@ def upgrade(trial):
     one = trial.through()
     one.socket.close()
     trial.guest.does("sync")
-    trial.equals("upgraded once more", trial.page_does(BACK_UP, 2), (0, ""))
+    trial.equals("upgraded once more", trial.page_does(UPGRADE), (0, ""))
     trial.cut_and_boot()
     trial.equals("after a cut right behind an upgrade all files are whole", trial.differing_files(), "")
     trial.runs("the unit runs")
@@ -160,18 +161,52 @@ def upgrade(trial):
 def backup(trial):
     """The page's commands copy the device and restore it."""
     trial.judge("before the copy", trial.through())
-    kept = trial.clients.state
+    kept = trial.judgement.state
     trial.guest.does("systemctl stop waffd")
     status, told = trial.page_does(BACK_UP)
     trial.check("the page's commands copy it, and show the copy", status == 0 and "records 0\n" in told, told)
     trial.guest.does("systemctl start waffd")
     trial.judge("after the copy", trial.through())
     trial.guest.does("systemctl stop waffd")
-    trial.equals("the page's commands restore it", trial.page_does(BACK_UP, 1), (0, ""))
+    trial.equals("the page's commands restore it", trial.page_does(RESTORE), (0, ""))
     trial.equals("it is its user's", trial.guest.does(f"stat -c '%a %U' {DEVICE}"), "600 waffd\n")
     trial.guest.does("systemctl start waffd")
-    trial.clients.state = kept
+    trial.judgement.state = kept
     trial.judge("the state of the copy", trial.session())
+
+
+def lines(trial):
+    """The page's commands write lines while a client stays, and restore them."""
+    one = trial.through()
+    end = trial.page_does(LINES)
+    trial.check("lines are written while a client stays", end[0] == 0 and "copied " in end[1], end)
+    trial.judge("while lines were written", one)
+    kept = trial.judgement.state
+    end = trial.page_does(DRILL)
+    trial.check("the drill restores them beside the service", end[1].endswith("the lines can be restored\n"), end)
+    trial.judge("after the lines", trial.through())
+    trial.guest.does("systemctl stop waffd")
+    end = trial.page_does(RESTORE_LINES)
+    trial.check("the page's commands restore them", end[0] == 0 and "copied " in end[1], end)
+    trial.guest.does("systemctl start waffd")
+    trial.judgement.state = kept
+    trial.judge("the state of the lines", trial.session())
+
+
+def back(trial):
+    """The page's commands lead back after an upgrade."""
+    trial.guest.does(f"cp -p {PROGRAM_THERE} {PROGRAM_THERE}.old; systemctl stop waffd; echo later >>{PROGRAM_THERE}")
+    trial.guest.does("systemctl start waffd")
+    one = trial.through()
+    one.socket.close()
+    trial.guest.does("systemctl stop waffd")
+    end = trial.page_does(GO_BACK)
+    trial.check("the new program writes lines", end[0] == 0 and "copied " in end[1], end)
+    end = trial.page_does(RESTORE_LINES)
+    trial.check("the old one makes a device of them", end[0] == 0 and "copied " in end[1], end)
+    trial.equals("the old program is back", trial.differing_files(), "")
+    trial.guest.does("systemctl start waffd")
+    trial.judge("changes of the later program", one)
 
 
 def undo(trial):

@@ -1,16 +1,15 @@
 """The service in a guest: what is asked of systemd there, and the checks."""
 import contextlib
-import io
 import os
-import re
-import tarfile
 import time
 
-from guest import PATIENCE, Guest
-from program import PROGRAM, TOP, bytes_of
-from sessions import Clients
+from ...rigs.client import Clients
+from ...rigs.disk import Disk
+from ...rigs.guest import PATIENCE, Guest
+from ...rigs.judge import Judge
+from ...rigs.page import Page
+from ...rigs.report import Report
 
-PORT = 7001  # of the host, which leads to the guest
 MEBIBYTES = 64  # of the disk on /srv
 UNIT = "/etc/systemd/system/waffd.service"
 DROP_IN = f"{UNIT}.d/override.conf"  # which `systemctl edit` writes
@@ -19,26 +18,19 @@ DEVICE = "/srv/waffd/device"
 LOCK = "/srv/waffd/lock"
 FAULT = "/run/waffd.fault"
 AWAY = "/root/away"
-PAGE = f"{TOP}/examples/service/README.md"
-REPOSITORY = {  # what the page's commands take from there
-    "crates/waffd/out/waffd": PROGRAM,
-    "examples/client/client.py": f"{TOP}/examples/client/client.py",
-    "examples/service/front.py": f"{TOP}/examples/service/front.py",
-    "examples/service/waffd.service": f"{TOP}/examples/service/waffd.service",
-}
-# Where the page installs these.
-INSTALLED = {
-    "crates/waffd/out/waffd": PROGRAM_THERE,
-    "examples/client/client.py": "/usr/local/lib/waffd/client.py",
-    "examples/service/front.py": "/usr/local/lib/waffd/front.py",
-    "examples/service/waffd.service": UNIT,
-}
+PAGE = "operations/service/README.md"
 INSTALL = "Install it"
 TALK = "Talk to it"
-BACK_UP = "Back up, restore, upgrade"
+BACK_UP = "Back up"
+RESTORE = "Restore a copy"
+UPGRADE = "Upgrade"
+LINES = "Back up while it runs"
+RESTORE_LINES = "Restore lines"
+DRILL = "A drill"
+GO_BACK = "Go back after an upgrade"
 # A disk of its own. The guest is slow, and boots without it where it isn't there.
 PREPARE = (
-    "mkdir repository && tar -xf repository.tar -C repository && mkfs.ext4 -q /dev/vdb"
+    "mkfs.ext4 -q /dev/vdb"
     " && echo '/dev/vdb /srv ext4 nofail,x-systemd.device-timeout=90 0 2' >>/etc/fstab"
     " && systemctl daemon-reload && mount /srv")
 # In the place of the program: it takes some seconds to open a device.
@@ -48,42 +40,17 @@ exec /usr/local/lib/slow/waffd "$@"
 """
 
 
-class Trial:
-    """A guest, its service and its clients; how many checks passed and how many failed."""
+class Trial(Report):
+    """A guest, its service and its clients, and what was checked."""
 
     def __init__(self, folder, image, seed):
-        self.disk = f"{folder}/disk"
-        with open(self.disk, "wb") as file:
-            file.truncate(MEBIBYTES << 20)
-        self.guest = Guest(folder, "guest", image, PORT, [self.disk])
+        super().__init__()
+        self.disk = Disk(f"{folder}/disk", seed, self.tell)
+        self.disk.make(MEBIBYTES)
+        self.guest = Guest(folder, "guest", image, 1, [self.disk])
         self.clients = Clients(seed)
-        self.page = bytes_of(PAGE).decode()
-        self.passed = 0
-        self.failed = 0
-
-    # ---- checks
-
-    def check(self, name, is_right, found=""):
-        """A check, and what was found where it fails."""
-        if is_right:
-            self.passed += 1
-            print(f"ok     {name}", flush=True)
-        else:
-            self.failed += 1
-            print(f"FAILED {name}: {found}", flush=True)
-
-    def equals(self, name, found, wanted):
-        self.check(name, found == wanted, f"{found!r}, not {wanted!r}")
-
-    def has(self, name, text, *wanted):
-        """A check that each of these stands in a text."""
-        self.check(name, all(word in text for word in wanted), text)
-
-    @staticmethod
-    def tell(text):
-        """Prints what is no check, below it."""
-        for line in text.strip().splitlines():
-            print(f"       {line}", flush=True)
+        self.judgement = Judge(self.clients)
+        self.page = Page(PAGE)
 
     # ---- the guest
 
@@ -98,28 +65,19 @@ class Trial:
 
     def prepare(self):
         """The guest has what the page's commands take from the repository, and a disk on /srv."""
-        data = io.BytesIO()
-        with tarfile.open(fileobj=data, mode="w") as tar:
-            for name, path in REPOSITORY.items():
-                tar.add(os.path.realpath(path), name)
-        self.guest.put("/root/repository.tar", data.getvalue())
+        self.page.bring(self.guest)
         self.guest.does(PREPARE)
-
-    def block(self, heading, number=0):
-        """A block of commands below a heading of the page."""
-        part = self.page.partition(f"\n## {heading}\n")[2].partition("\n## ")[0]
-        return re.sub("^    ", "", re.findall(r"(?:^    .*\n)+", part, re.M)[number], flags=re.M)
 
     def page_does(self, heading, number=0):
         """The status and the output of a block of the page, at the top of the repository."""
-        return self.commands(self.block(heading, number))
+        return self.commands(self.page.below(heading, number))
 
     def commands(self, block):
         return self.guest.run(f"cd /root/repository && set -e\n{block}")
 
     def differing_files(self):
         """Those of the installed files that aren't as in the repository."""
-        pairs = [f"cmp repository/{name} {there} 2>&1" for name, there in INSTALLED.items()]
+        pairs = [f"cmp repository/{name} {there} 2>&1" for name, there in self.page.installed()]
         return self.guest.run("; ".join(pairs))[1]
 
     # ---- the unit
@@ -216,7 +174,7 @@ class Trial:
     def judge(self, name, old):
         """A check that the next client finds each change that was acknowledged to this one, and none that can't be."""
         try:
-            found = self.clients.judge([self.guest], old)
+            found = self.judgement.judge([self.guest], old)
         except AssertionError as error:
             self.check(name, False, error)
         else:
@@ -236,4 +194,4 @@ class Trial:
             self.boot()
         self.guest.run(f"rm -rf {FAULT} {os.path.dirname(DROP_IN)}; mount /srv; systemctl daemon-reload")
         self.starts()
-        self.clients.look([self.guest])
+        self.judgement.look([self.guest])
