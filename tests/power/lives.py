@@ -6,14 +6,18 @@ import math
 import os
 import pickle
 import random
+import sys
 import time
 
-from layout import image_at, recovered
-from machine import MODES, Dead, Guest, Kept, Log, private_copy
-from meaning import Search, empty_state, lines_that_make, lines_that_read, options_of, state_of_replies
-from program import put_bytes, run
-from servers import COMMON, NARROW, SMALL, WIDE, Drawing, plain, replies_of, text_of
-from synced_file import EMPTIED, SyncedFile
+from ..system.meaning import Search, empty_state, lines_that_make, lines_that_read, options_of, state_of_replies
+from ..system.program import TOP, put_bytes, run
+from ..system.servers import COMMON, NARROW, SMALL, WIDE, Drawing, plain, replies_of, text_of
+from .machine import Dead, Guest
+from .served_disk import Kept, Log, private_copy
+from .synced_file import EMPTIED, SyncedFile
+
+sys.path.append(os.path.join(TOP, "examples", "inspect"))
+from device_format import image_at, recovered
 
 LIVES = 4  # of a chain
 IMAGES = 40  # of a life
@@ -22,6 +26,9 @@ COUNTS = (
     "lives", "images", "cuts with acknowledged changes", "byte checks", "violations", "torn disks not mounted",
     "guests that died")
 ALWAYS_TOLD = 5  # of these counts; each of the others where there are any
+MODES = (
+    Kept.NONE, Kept.NONE, Kept.ALL, Kept.SOME, Kept.SOME, Kept.ALL_BUT_ONE, Kept.ONE, Kept.THE_FIRST, Kept.TORN_4096,
+    Kept.TORN_512, Kept.TORN_512)
 KILLED = 128 + 9
 START_NOISE = "noise >/dev/null 2>&1 & echo $! >/tmp/noise"
 STOP_NOISE = "kill -9 $(cat /tmp/noise)"
@@ -158,9 +165,7 @@ class Chain:
 
     def recover(self, disk):
         """What the system says where it doesn't mount this disk, and the bytes of the file."""
-        self.guest.disk = disk
-        self.guest.log = Log("")
-        self.guest.hold = 0
+        self.be_served(disk, Log(""), 0)
         refused = self.guest.mount(self.setup.module)
         if refused:
             return refused, None
@@ -169,14 +174,19 @@ class Chain:
             raise Dead("it can't be unmounted")
         return None, data
 
+    def be_served(self, data, log, hold):
+        """From now on the guest's disk has these bytes, and what is done to it comes into this log."""
+        disk = self.guest.disk
+        disk.bytes = data
+        disk.log = log
+        disk.hold = hold
+
     def live(self):
         """Runs programs on the disk, and returns the disk's log."""
         chance = self.chance
         guest = self.guest
         log = Log(self.base, lies=self.bug is not None and self.bug.disk_lies)
-        guest.disk = private_copy(self.base)
-        guest.log = log
-        guest.hold = chance.choice((0, 0.3, 0.6))
+        self.be_served(private_copy(self.base), log, chance.choice((0, 0.3, 0.6)))
         pace = chance.choice((1, 10, 500))
         is_noisy = chance.random() < 0.3
         is_reported = chance.random() < 0.5
@@ -186,7 +196,7 @@ class Chain:
         before = self.mount_as_found()
         folder = os.path.dirname(self.path)
         guest.ask(f"mkdir -p {folder}; {START_NOISE}; did true" if is_noisy else f"mkdir -p {folder}; did true")
-        words = f"noise {is_noisy}, reports {is_reported}, hold {guest.hold}, write-back {pace}"
+        words = f"noise {is_noisy}, reports {is_reported}, hold {guest.disk.hold}, write-back {pace}"
         self.life = Life(self.path, self.found, words)
         self.counts["lives"] += 1
         self.run_programs(self.environment(is_reported))
@@ -194,9 +204,8 @@ class Chain:
             self.life.synced = SyncedFile(before, log.heard["reports"])
         last = "did umount /mnt" if chance.random() < 0.5 else "did true"
         guest.ask(f"{STOP_NOISE}; {last}" if is_noisy else last)
-        guest.wait(lambda: not guest.held)
-        guest.log = Log("")
-        guest.hold = 0
+        guest.wait(lambda: not guest.disk.held)
+        self.be_served(guest.disk.bytes, Log(""), 0)
         guest.ask("while grep -q ' /mnt ' /proc/mounts; do umount /mnt || usleep 1000; done; did true")
         return log
 
@@ -230,7 +239,7 @@ class Chain:
             g = chance.choice((SMALL, SMALL, WIDE, WIDE, NARROW, COMMON))
             state = empty_state(g)
             times -= 1
-            self.guest.log.heard["reports"].append((len(self.guest.log.events), EMPTIED))
+            self.guest.disk.log.heard["reports"].append((len(self.guest.disk.log.events), EMPTIED))
             words = [*environment, "/bin/waffd format", self.path, *options_of(g)]
             self.run_program(Phase(Kind.FORMAT, g, state), words, b"formatted %d\n" % image_at(g, 2))
         for _ in range(times):
@@ -260,7 +269,7 @@ class Chain:
     def run_program(self, phase, words, wanted, kill_at=NEVER):
         """Runs it to its end, or until it has answered so many lines. It has to answer what is wanted."""
         guest = self.guest
-        log = guest.log
+        log = guest.disk.log
         most = self.chance.choice((1, 12, 12, 120))
         begin = len(log.heard["output"])
         phase.start = len(log.events)

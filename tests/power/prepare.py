@@ -6,7 +6,7 @@ import os
 import shutil
 import subprocess
 
-import program
+from ..system import program
 
 HERE = os.path.dirname(os.path.realpath(__file__))
 EXT4 = "mkfs.ext4 -q -F -g 8192 -J size=4 -E nodiscard,lazy_itable_init=0,lazy_journal_init=0 -b "
@@ -46,9 +46,9 @@ def lacking_packages(needed):
     return None
 
 
-def lacking(kernel, more=()):
-    """What is to be done first. `more` are programs or files that are needed, too, and the packages that have them."""
-    found = [lacking_packages({**PACKAGES, **dict(more)})]
+def lacking(kernel):
+    """What is to be done first."""
+    found = [lacking_packages(PACKAGES)]
     if not glob.glob(f"{kernel}/boot/vmlinuz-*"):
         found.append(NO_KERNEL.format(kernel))
     found.append(lacking_program())
