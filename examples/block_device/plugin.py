@@ -108,10 +108,10 @@ def with_device(start, device):
         with client.locked(device) as file:
             return start(file)
     except BlockingIOError as error:
-        raise ServerFault(f"{device} is served already") from error
+        raise ServerFault(str(error)) from None
     except OSError as error:
         what = "opened" if error.filename == device else "run"
-        raise ServerFault(f"{error.filename} can't be {what}: {error.strerror}") from error
+        raise ServerFault(f"{error.filename} can't be {what}: {error.strerror}") from None
 
 
 # ---- what nbdkit calls

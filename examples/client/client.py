@@ -17,7 +17,8 @@ import threading
 import time
 
 IN_FLIGHT = 2048  # lines that `answers` sends ahead, at most: enough for a server with 1,024 slots
-PAUSES = (0, 1, 2, 3, 4, 5)  # seconds before a new start, after so many without a reply; then `carry_out` gives up
+PIECE = 1 << 14  # bytes of lines that are sent by one call, at most
+PAUSES = (0, 1, 2, 3, 4, 5)  # seconds before a new start, after so many without a reply; then `Retrying` gives up
 Request = collections.namedtuple("Request", "lines replies is_over")  # over: with all replies, or no more will come
 
 
@@ -30,11 +31,20 @@ class Lost(Exception):
         self.status, self.unanswered = status, unanswered
 
 
-def locked(device):
-    """The file of a device, locked as by flock until it is closed here and in each process that was given it."""
+def locked(device, wait=10):
+    """The file of a device, locked as by flock until it is closed here and in each process that was given it. It waits
+    for the lock for so many seconds: a server whose client has died holds it until it has answered what it had read
+    and made its last checkpoint."""
     file = open(device, "rb")
-    fcntl.flock(file, fcntl.LOCK_EX | fcntl.LOCK_NB)
-    return file
+    end = time.monotonic() + wait
+    while True:
+        with contextlib.suppress(BlockingIOError):
+            fcntl.flock(file, fcntl.LOCK_EX | fcntl.LOCK_NB)
+            return file
+        if time.monotonic() >= end:
+            file.close()
+            raise BlockingIOError(f"{device} is served already")
+        time.sleep(0.01)
 
 
 def start(file, program="./waffd", options=()):
@@ -57,7 +67,25 @@ def connect(path):
     return Client(connection)
 
 
-class Client(contextlib.AbstractContextManager):
+def in_pieces(text):
+    """Whole lines, as many at a time as fit into a piece. The kernel takes a piece as a whole or not at all. So a
+    client that is killed leaves no beginning of a line, which its server would take for a whole one."""
+    begin = 0
+    while begin < len(text):
+        end = text.rfind(b"\n", begin, begin + PIECE) + 1 or text.index(b"\n", begin) + 1
+        yield text[begin:end]
+        begin = end
+
+
+class Closing(contextlib.AbstractContextManager):
+    """What a `with` closes. If its block has failed, that error is raised, and not what `close` meets."""
+
+    def __exit__(self, kind, error, trace):
+        with contextlib.suppress(Lost) if kind else contextlib.nullcontext():
+            self.close()
+
+
+class Client(Closing):
     """One connection, for any number of threads. One of its own takes each reply as it comes: none stays unread."""
 
     def __init__(self, connection, process=None):
@@ -70,11 +98,6 @@ class Client(contextlib.AbstractContextManager):
         self.reader = threading.Thread(target=self.take_replies, daemon=True)
         self.reader.start()
 
-    def __exit__(self, kind, error, trace):
-        """Closes it. If the block has failed, its error is raised, and not what `close` meets."""
-        with contextlib.suppress(Lost) if kind else contextlib.nullcontext():
-            self.close()
-
     def send(self, lines):
         """Sends lines without waiting for their replies: the request."""
         request = Request(list(lines), [], threading.Event())
@@ -84,7 +107,8 @@ class Client(contextlib.AbstractContextManager):
         with self.lock, contextlib.suppress(OSError):  # of an end, which the other thread finds, too
             if self.is_open and request.lines:
                 self.requests.append(request)
-                self.connection.sendall(text)
+                for piece in in_pieces(text):
+                    self.connection.sendall(piece)
             else:
                 self.unsent += request.lines
                 request.is_over.set()
@@ -150,25 +174,49 @@ class Client(contextlib.AbstractContextManager):
             self.connection.close()
 
 
-def carry_out(new_client, lines, together=1):
-    """The replies to these lines, over any number of kills and lost connections: `new_client` connects, or fails, and
-    lines without a reply are sent again, in order. protocol.md says what that means where they were carried out."""
-    lines, again = iter(lines), iter([])
-    starts = 0  # since the last reply
-    while True:
-        starts += 1
-        try:
-            with new_client() as client:
-                for reply in client.answers(itertools.chain(again, lines), together):
-                    starts = 0
+class Retrying(Closing):
+    """A client over any number of kills and lost connections, for one thread: `new_client` connects, or fails, and
+    lines without a reply are sent again, in order. The README says under which conditions that leaves no trace."""
+
+    def __init__(self, new_client):
+        self.new_client = new_client
+        self.client = None
+        self.starts = 0  # since the last reply
+
+    def answers(self, lines, together=1):
+        """The replies to these lines. Take all of them before you call it again."""
+        lines, again = iter(lines), iter([])
+        while True:
+            try:
+                if self.client is None:
+                    self.starts += 1
+                    self.client = self.new_client()
+                for reply in self.client.answers(itertools.chain(again, lines), together):
+                    self.starts = 0
                     yield reply
-            return
+                return
+            except Lost as lost:
+                self.client = None
+                lost.unanswered += again
+                if lost.status > 0 or self.starts == len(PAUSES):
+                    raise
+                again = iter(lost.unanswered)
+                time.sleep(PAUSES[self.starts])
+
+    def close(self):
+        """Closes it. If the server is killed meanwhile, no line that was answered is lost."""
+        try:
+            if self.client is not None:
+                self.client.close()
         except Lost as lost:
-            lost.unanswered += again
-            if lost.status > 0 or starts == len(PAUSES):
+            if lost.status > 0:
                 raise
-            again = iter(lost.unanswered)
-            time.sleep(PAUSES[starts])
+
+
+def carry_out(new_client, lines, together=1):
+    """The replies to these lines, by a `Retrying` that is closed at the end."""
+    with Retrying(new_client) as servers:
+        yield from servers.answers(lines, together)
 
 
 def pieces_of(file):

@@ -3,7 +3,7 @@
 
     examples/copy/copy.py FROM [TO [PROGRAM]]     PROGRAM is ./waffd, if none is named
 
-FROM is a device, the socket of a server that runs behind examples/service/front.py, or `-`, for the standard input:
+FROM is a device, the socket at which a client of operations/service/front.py is alone, or `-`, for the standard input:
 lines that a copy has written. TO is a device that was formatted and is empty, or `-`, for lines on the standard
 output, which is also what a copy without TO writes. All is read first: what doesn't fit is printed, and TO stays
 empty. Devices are locked, as by flock.
@@ -188,13 +188,13 @@ def geometry_of(program, device):
         sys.exit(f"copy: {program} show {device} ended with {end.returncode}")
     lines = end.stdout.splitlines()
     if NOTHING not in lines:
-        sys.exit("the new device isn't empty")
+        sys.exit("copy: the new device isn't empty")
     return Geometry(*map(int, lines[0].split()[1:]))
 
 
 def write_all(volumes, file, program, g):
     """Makes these volumes on a device that is locked."""
-    found = list(misfits(volumes, g))
+    found = [f"copy: {what}" for what in misfits(volumes, g)]
     if found:
         sys.exit("\n".join(found))
     lines = lines_for(volumes, g)
@@ -217,21 +217,13 @@ def volumes_at(source, file, program):
         return read_all(server)
 
 
-def locked(path):
-    """The file of a device, locked until it is closed."""
-    try:
-        return client.locked(path)
-    except BlockingIOError:
-        sys.exit(f"copy: {path} is locked: another process has it")
-
-
 def copy(source, target, program):
     """Copies: what was copied."""
     with contextlib.ExitStack() as locks:
         files = {}
         for path in (source, target):
             if path != STREAM and not stat.S_ISSOCK(os.stat(path).st_mode):
-                files[path] = locks.enter_context(locked(path))
+                files[path] = locks.enter_context(client.locked(path))
         if target == STREAM:
             volumes = volumes_at(source, files.get(source), program)
             for place, volume in volumes.items():
@@ -258,8 +250,8 @@ def main():
         if STREAM not in (given.source, given.target) and os.path.samefile(given.source, given.target):
             sys.exit(f"copy: {given.source} and {given.target} are one file")
         volumes = copy(given.source, given.target, given.program)
-    except client.Lost as lost:
-        sys.exit(f"copy: {lost}")
+    except (client.Lost, BlockingIOError) as why:
+        sys.exit(f"copy: {why}")
     except OSError as error:  # without a name where a stream can't be written
         sys.exit(": ".join(filter(None, ("copy", error.filename, error.strerror))))
     told = summary_of(volumes).replace("summary", "copied")
