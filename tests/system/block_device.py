@@ -12,9 +12,9 @@ import threading
 import time
 from urllib.parse import quote
 
-from program import PATIENCE, PROGRAM, TOP, Case, put_bytes, run
-from meaning import options_of
-from servers import GREATEST
+from .program import PATIENCE, PROGRAM, TOP, Case, put_bytes, run
+from .meaning import options_of
+from .servers import GREATEST
 
 try:
     import nbd
@@ -310,6 +310,7 @@ class BlockDevice(Case):
         for name, device, text in rows:
             with self.subTest(f"a device {name} is refused"):
                 words = ["nbdkit", "--foreground", "--unix", "-", *self.plugin_of(device)]
-                end = subprocess.run(words, capture_output=True, text=True, timeout=PATIENCE, check=False)
+                end = subprocess.run(words, capture_output=True, text=True, timeout=2 * PATIENCE, check=False)
                 self.assertEqual(end.returncode, 1, f"{end.stderr[-200:]!r}")
                 self.assertIn(text, end.stderr)
+                self.assertEqual(end.stderr.count("Traceback"), 1)

@@ -16,9 +16,9 @@ import threading
 import time
 import unittest.mock
 
-from program import PATIENCE, PROGRAM, TOP, Case, bytes_of, read_until, run
-from meaning import changes_of, empty_state, lines_that_read, refusal
-from servers import COMMON, GREATEST, SMALL, WIDE, Device, Drawing, plain, replies_of, text_of
+from .program import PATIENCE, PROGRAM, TOP, Case, bytes_of, read_until, run
+from .meaning import changes_of, empty_state, lines_that_read, refusal
+from .servers import COMMON, SMALL, WIDE, Device, Drawing, plain, replies_of, text_of
 
 sys.path.append(os.path.join(TOP, "examples", "client"))
 import client
@@ -30,6 +30,28 @@ TORN = "#!/bin/sh\nread line\nprintf 'done\\nblock 5a5a'\nkill -KILL $$\n"
 FULL_BLOCK = ["makevol 0 0", "create 0 0 0", f"write 0 0 0 0 {'5a' * 512}"]
 FULL_REPLY = f"block {'5a' * 512}"
 COMMAND = os.path.join(TOP, "examples", "client", "client.py")
+# A client that is given its folder, a device and a program, and sends changes without an end.
+WRITER = """
+import itertools, sys
+folder, device, program = sys.argv[1:]
+sys.path.append(folder)
+import client
+with client.locked(device) as file:
+    server = client.start(file, program)
+for number, _ in enumerate(server.answers(itertools.chain(["makevol 0 0"], itertools.repeat("seal 0 0")), 8)):
+    if number == 100:
+        print("begun", flush=True)
+"""
+# A client that is given its folder and a socket, and sends lines of many lengths without an end.
+SENDER = """
+import sys
+folder, path = sys.argv[1:]
+sys.path.append(folder)
+import client
+server = client.connect(path)
+while True:
+    server.send(number * 3 * "x" for number in range(1, 360))
+"""
 # Geometry, workers, slots and every.
 SERVERS = ((SMALL, 2, 16, 0), (WIDE, 4, 64, 3), (COMMON, 2, 16, 0), (COMMON, 2, 1024, 100))
 KILLS = max(40, int(os.environ.get("KILLS", 0)) // 8)  # over all of these servers
@@ -175,6 +197,29 @@ class Replies(Case):
         closing.join()
         self.assertEqual(closed, [None])
 
+    def test_a_device_that_is_served(self):
+        """a client waits until the server of the one before has ended, and else tells which device is served"""
+        server = self.connects()
+        with self.assertRaises(BlockingIOError) as raised:
+            client.locked(self.device, wait=0)
+        self.assertEqual(str(raised.exception), f"{self.device} is served already")
+        closing = threading.Timer(0.3, server.close)
+        closing.start()
+        began = time.monotonic()
+        client.locked(self.device).close()
+        self.assertGreater(time.monotonic() - began, 0.2)
+        closing.join()
+
+    def test_a_killed_client(self):
+        """a client that is started again at once gets the device, though the server of the killed one goes on"""
+        for _ in range(10):
+            words = [sys.executable, "-c", WRITER, os.path.dirname(COMMAND), self.device, os.path.abspath(PROGRAM)]
+            killed = self.started(words, stdout=subprocess.PIPE)
+            self.assertEqual(killed.stdout.readline(), b"begun\n")
+            killed.kill()
+            killed.communicate()
+            client.locked(self.device).close()
+
     def test_threads(self):
         """each of many threads gets the replies to its own lines"""
         server = self.connects()
@@ -235,6 +280,30 @@ class Ends(Case):
         self.assertFalse(asking.is_alive())
         self.client.reader.join()
         self.assertEqual(self.client.connection.fileno(), -1)
+
+
+class Killed(Case):
+    """A client that is killed while it sends."""
+
+    def test_whole_lines(self):
+        """a killed client leaves no beginning of a line, which a server would take for a whole one"""
+        with socket.socket(socket.AF_UNIX) as listener:
+            listener.bind(self.at("socket"))
+            listener.listen()
+            listener.settimeout(PATIENCE)
+            for turn in range(40):
+                killed = self.started([sys.executable, "-c", SENDER, os.path.dirname(COMMAND), self.at("socket")])
+                with listener.accept()[0] as connection:
+                    found = self.sent_by(killed, connection, turn)
+                self.assertEqual(found[-1:], b"\n", f"after {len(found)} bytes: {found[-10:]}")
+
+    def sent_by(self, killed, connection, turn):
+        """All that a client has sent that is killed while a full buffer keeps it waiting, after some thousand bytes."""
+        found = read_until(connection, lambda found: len(found) > turn * 7919, 4096)
+        time.sleep(0.01)
+        killed.kill()
+        killed.wait()
+        return found + read_until(connection, lambda found: False, 1 << 16)
 
 
 class Command(Case):

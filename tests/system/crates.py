@@ -7,7 +7,7 @@ import struct
 import subprocess
 import sys
 
-from program import MOST_TURNS, TOP, Case, bytes_of, run
+from .program import MOST_TURNS, TOP, Case, bytes_of, run
 
 FAILED_TEST = (101, -signal.SIGABRT)  # by an error that it answered, or by an assertion
 LONGEST_TEST = 60  # seconds

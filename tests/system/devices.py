@@ -2,15 +2,16 @@
 device fails in turn, alone and with all behind it, and the next run has all that was acknowledged. What `format`
 syncs before it tells that it has made a device."""
 import os
+import random
 import re
 import shutil
 import subprocess
 import unittest
 
-from meaning import options_of
-from program import (
+from .meaning import Geometry, options_of
+from .program import (
     DEVICE_FAULT, EACH_KIND, MADE, PROGRAM, READ_FAULT, REPLIES, Case, bytes_of, is_beginning, put_bytes, run)
-from servers import (
+from .servers import (
     CHAIN_0, CHAIN_1, GATE_0, GATE_1, GREATEST, IMAGE_0, IMAGE_1, RECORD_0, ROOT, SMALL, Device, File, text_of,
     with_bytes)
 
@@ -18,6 +19,8 @@ TOLD = b"formatted 8840\n"
 # The syncs of the new file and of its folder, one more and a read, then six writes and three syncs.
 CALLS_OF_FORMAT = 13
 NOBODY = 65534
+VOLUMES = 4
+WIDE = Geometry(1, VOLUMES, 4, 1, 1, 4, 4, 1024)
 LEAST_CALLS = 50  # of the device, while some thirty changes are logged
 # What is set in a device that was just formatted, and how it is reported.
 DAMAGED = (
@@ -135,6 +138,24 @@ class Files(Case):
             self.assertEqual(bytes_of(file.path)[8840:], b"more" * 1000)
 
 
+def least_batches(stripes, slots):
+    """In how few batches writes to these stripes can be logged, where so many lines may be outstanding. A batch has the
+    first unlogged write to each stripe, and replies are sent in order."""
+    logged = [False] * len(stripes)
+    unsent = batches = 0
+    while unsent < len(stripes):
+        first = {}
+        for at in range(unsent, min(unsent + slots, len(stripes))):
+            if not logged[at]:
+                first.setdefault(stripes[at], at)
+        for at in first.values():
+            logged[at] = True
+        batches += 1
+        while unsent < len(stripes) and logged[unsent]:
+            unsent += 1
+    return batches
+
+
 class Calls(Case):
     """How many calls of the device a run makes."""
 
@@ -158,6 +179,29 @@ class Calls(Case):
                 name = f"{command} where {changes} are set: {reads} reads and {syncs} syncs"
                 self.makes(name, [command, file.path], reads, syncs)
 
+    def changing_calls(self, stripes, *options):
+        """How many writes and syncs a run makes that writes to these stripes of new volumes, of four stripes each."""
+        lines = [f"makevol 0 {volume}\ncreate 0 {volume} 0\n" for volume in range(VOLUMES)]
+        lines += [f"write 0 {stripe // 4} 0 {stripe % 4} 61\n" for stripe in stripes]
+        run(["format", self.at("wide"), *options_of(WIDE)])
+        words = ["serve", self.at("wide"), *options]
+        end, (_, changing, *_) = self.between("stop.c").counts(self.at("counts"), words, "".join(lines).encode())
+        self.assertEqual(end, (0, b"done\n" * (len(stripes) + 2 * VOLUMES), b""))
+        return changing
+
+    def test_batches_are_as_large_as_they_can_be(self):
+        """Each batch takes two writes and two syncs. The replies of a batch leave at once, so that as many lines as
+        there are slots can go into the next ones. Where the processors are busy a batch may be smaller: so the best of
+        some runs counts."""
+        chosen = random.Random(1)
+        stripes = [chosen.randrange(4 * VOLUMES) for _ in range(900)]
+        for slots in (1, 16, 64):
+            with self.subTest(slots=slots):
+                least = least_batches(stripes, slots)
+                made = min(self.changing_calls(stripes, "--slots", str(slots)) for _ in range(3))
+                made -= self.changing_calls([], "--slots", str(slots))
+                self.assertLessEqual(made / 4, 1.03 * least)
+
     def test_each_part_is_read_once(self):
         """The header, the root byte, an image's head and its pieces, the chain byte and the commit bytes."""
         run(["format", self.at("great"), *options_of(GREATEST)])
@@ -167,7 +211,7 @@ class Calls(Case):
 
 
 class DeviceFaults(Case):
-    """Each call of the device fails in turn, alone or with all behind it."""
+    """Each call of the device fails in turn, alone or with all behind it. After the one that failed there is none."""
 
     def test_each_call(self):
         lines = (EACH_KIND * 3).decode().splitlines()
@@ -175,11 +219,14 @@ class DeviceFaults(Case):
         for turn in ("FAIL_CALL", "FAIL_CALLS_FROM"):
             for slots, every in ((1, 2), (16, 0)):
                 def attempt(number):
+                    self.number = number
                     self.device = Device(self.folder, (SMALL, 2, slots, every))
-                    return between.run(turn, number, self.device.words(), text_of(lines))
+                    return between.run_to_fault(turn, number, self.device.words(), text_of(lines))
 
-                def judge(end):
+                def judge(found):
+                    end, calls = found
                     self.has_ended(end, 1, lambda output: is_beginning(output, output), DEVICE_FAULT)
+                    self.assertEqual(calls, self.number, "calls of the device, the last of them failed")
                     self.device.judge(lines, end[1], False)
 
                 self.each(f"{turn}: {slots} slots, every {every}", LEAST_CALLS, attempt, judge)
@@ -245,7 +292,8 @@ class Formatting(Case):
         self.assertEqual(calls, CALLS_OF_FORMAT + 130)
 
     def test_faults(self):
-        """Each call of the device fails in turn, alone or with all behind it: nothing is printed but the fault."""
+        """Each call of the device fails in turn, alone or with all behind it: nothing is printed but the fault, and
+        there is no call after the one that failed."""
         for is_over in (False, True):
             for turn in ("FAIL_CALL", "FAIL_CALLS_FROM"):
                 self.fails_in_turn(turn, is_over)
@@ -256,14 +304,17 @@ class Formatting(Case):
         between = self.between("stop.c")
 
         def attempt(number):
+            self.number = number
             if os.path.exists(self.at("faulty")):
                 os.unlink(self.at("faulty"))
             if is_over:
                 run(words)
-            return between.run(turn, number, words)
+            return between.run_to_fault(turn, number, words)
 
-        def judge(end):
+        def judge(found):
+            end, calls = found
             self.has_ended(end, 1, b"", DEVICE_FAULT)
+            self.assertEqual(calls, self.number, "calls of the device, the last of them failed")
 
         what = "over a device" if is_over else "of a new file"
         self.each(f"{turn}: format {what}", CALLS_OF_FORMAT, attempt, judge)

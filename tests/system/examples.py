@@ -19,7 +19,7 @@ import sys
 import tempfile
 import textwrap
 
-from program import PATIENCE, PROGRAM, TOP, Case, read_until
+from .program import PATIENCE, PROGRAM, TOP, Case, read_until
 
 PROMPT = "    $ "
 BLOCK = re.compile(r"(?<=\n\n)    \$ .*\n(?:(?:    .*)?\n)*")

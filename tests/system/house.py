@@ -10,13 +10,13 @@ import time
 import unittest
 from concurrent.futures import ThreadPoolExecutor
 
-from program import TOP, Case, run
+from .program import TOP, Case, run
 
 SCRIPTS = {
     "tests/lint/words": "each public word of the definitions has one meaning",
     "tests/lint/names": "each name in a comment and in the map of the code is there",
     "tests/lint/form": "each clause, function, file and page has the form that it is to have",
-    "tests/lint/fixed": "no line of a table of what is fixed was taken out, and no decision",
+    "tests/lint/fixed": "no line of a table of what is fixed was taken out or replaced, and no decision",
     "tests/lint/wrong_bodies": "each wrong body has its edit or test",
     "tests/lint/refusals": "each must-fail edit is a body of its own, and names the goal at which it has to be refused",
     "tests/lint/assertions": "each test of a crate reaches an assertion",
@@ -30,7 +30,7 @@ SCRIPTS = {
     "tests/lint/version": "the version names the kit, the logic and the newest changes",
 }
 LINTS = [words for words in SCRIPTS if words.startswith("tests/lint/")]
-HELPFUL = ("./build", "./check", "./try", "docs/pictures/draw", "tests/lint/chain", *LINTS)
+HELPFUL = ("./build", "./check", "./try", "./statement", "docs/pictures/draw", "tests/lint/chain", *LINTS)
 
 
 def run_script(words):
@@ -45,6 +45,12 @@ class Scripts(Case):
         for words, fact in SCRIPTS.items():
             with self.subTest(fact):
                 self.assertEqual(ends[words].returncode, 0, ends[words].stdout + ends[words].stderr)
+
+    def test_lengths(self):
+        """how long the pages and the scripts are is for whoever reviews"""
+        end = run_script("tests/lint/form lengths")
+        print(end.stdout, end="", flush=True)
+        self.assertEqual(end.returncode, 0, end.stderr)
 
     def test_help(self):
         """each script tells by --help what it does"""
@@ -156,7 +162,9 @@ touch -d @3000 out/waffd
 """
 PROGRAM = "#!/bin/sh\necho \"ran $*\"\nexit 7\n"
 NOT_RUN = 4
-BUILT = b"waffd: all of it is proved first; meanwhile ./try runs it unproved, in a minute or two\nbuilt\n"
+BUILT = (
+    b"waffd: there is no program yet: all of it is proved and built first, which takes a quarter of an hour on four "
+    b"slow processors; meanwhile ./try runs it unproved, in a minute or two\nbuilt\n")
 OLD = (b"waffd: a source is newer than the program, which is not run: ./build proves what has changed, and builds it "
        b"anew (in a copy, where nothing but times has changed, that takes a minute or so)\n")
 RAN = (7, b"ran serve d --every 2\n")
@@ -351,14 +359,33 @@ TRIED = (
 
 
 class Try(Case):
-    def test_arguments(self):
-        """./try runs `rt try` in the folder of the program, with the whole path of a device."""
-        self.put_script("rt", '#!/bin/sh\necho "$*"\npwd\n')
+    """./try, in a folder of its own, with a script in the place of `rt`."""
+
+    def setUp(self):
+        super().setUp()
+        self.put_script("rt", '#!/bin/sh\necho "$*"\npwd\ncat\n')
         os.makedirs(self.at("crates/waffd"))
         shutil.copy(os.path.join(TOP, "try"), self.folder)
-        env = {"PATH": f"{self.folder}:{os.environ['PATH']}"}
+        self.env = {"PATH": f"{self.folder}:{os.environ['PATH']}"}
+
+    def tries(self, given, **streams):
+        return run(given.split(), program=(self.at("try"),), cwd="/tmp", env=self.env, **streams)
+
+    def test_arguments(self):
+        """./try runs `rt try` in the folder of the program, with the whole path of a device."""
         there = os.path.realpath(self.at("crates/waffd"))
         for given, wanted in TRIED:
             output = f"try --seconds 3600 -- {wanted.replace('@', '/tmp')}".strip() + f"\n{there}\n"
-            end = run(given.split(), program=(self.at("try"),), cwd="/tmp", env=env)
-            self.ends(f"./try {given}", end, 0, output.encode(), lambda text: b"is proved; it is compiled anew" in text)
+            self.ends(f"./try {given}", self.tries(given), 0, output.encode(),
+                      lambda text: b"is proved; it is compiled anew" in text and b"Ctrl-D" not in text)
+
+    def test_a_terminal(self):
+        """./try at a terminal tells how its lines end, and takes them to their end"""
+        for given in ("plain", "serve d"):
+            ours, theirs = os.openpty()
+            os.write(ours, b"list 0 0\nsummary\n\x04")
+            status, output, told = self.tries(given, stdin=theirs)
+            self.assertEqual((status, output.splitlines()[2:]), (0, [b"list 0 0", b"summary"]))
+            self.assertIn(b"Ctrl-D", told)
+            os.close(ours)
+            os.close(theirs)

@@ -2,8 +2,8 @@
 is as it was, or as opening it leaves it."""
 import os
 
-from program import EACH_KIND, NO_MEMORY, Case, bytes_of, is_beginning, put_bytes, run
-from servers import File
+from .program import EACH_KIND, NO_MEMORY, Case, bytes_of, is_beginning, put_bytes, run
+from .servers import File
 
 # For memory, of a server: what is read, the reorder buffer, the core, the bench and the answers among them.
 LEAST_REQUESTS = 10

@@ -1,126 +1,27 @@
-"""What the pages tell whoever operates a server: the unit and the commands of examples/service; the copy; the stack;
+"""What the pages tell whoever operates a server: the unit and the commands of operations/service; the copy; the stack;
 what a crash leaves."""
 import fcntl
 import itertools
 import os
 import re
-import shlex
 import shutil
-import signal
-import socket
 import subprocess
-import sys
 import time
 import unittest
 
-from program import LONGEST_RUN, PATIENCE, PROGRAM, TOP, Case, bytes_of, put_bytes, read_until, run
-from meaning import Geometry, lines_that_read, options_of
-from servers import COMMON, GREATEST, Drawing, replies_of, text_of
+from . import fronts
+from .fronts import FULL_BLOCK
+from .program import PATIENCE, PROGRAM, TOP, Case, bytes_of, put_bytes, run
+from .meaning import Geometry, lines_that_read, options_of
+from .servers import COMMON, GREATEST, Drawing, replies_of, text_of
 
-sys.path.append(os.path.join(TOP, "examples", "client"))
-import client
-
-SERVICE = os.path.join(TOP, "examples", "service")
 COPY = os.path.join(TOP, "examples", "copy", "copy.py")
-SOCKET = "/run/waffd/socket"
+SOCKETS = "/run/waffd/"
 FIRST_SYNC_OF_A_CHANGE = 6  # the opening makes five
-FULL_BLOCK = b"makevol 0 0\ncreate 0 0 0\nwrite 0 0 0 0 " + b"61" * 512 + b"\n"
-# A socket takes these lines, but not their replies.
-MANY = [f"setlabel 0 0 {number:04x}01\n".encode() + b"read 0 0 0 0\n" * 200 for number in range(80)]
-REPLIES_OF_ONE = 201  # to the lines of one of these
-LAST_LABEL = "ff"
-MANY_CHANGES = ["makevol 0 0", *["setlabel 0 0 61"] * 5000, f"setlabel 0 0 {LAST_LABEL}"]
-# In the place of the server: its first reply comes once there is a file, and each other one a while after its line,
-# which is longer than the idle limit of a test.
-SLOW_SERVER = """#!/bin/sh
-read line
-: >started
-until [ -e open ]; do sleep 0.01; done
-echo "$line"
-while read line; do
-    sleep 1.2
-    echo "$line"
-done
-"""
-# Runs front.py, which is the first of the words behind, with another patience.
-HURRIED = ("python3", "-c", """
-import os, sys
-sys.path.append(os.path.dirname(sys.argv[1]))
-import front
-front.PATIENCE = 1
-sys.exit(front.main(sys.argv[2:]))
-""")
 
 
-def slow_down(_):
-    """Never enough, after a rest."""
-    time.sleep(0.005)
-    return False
-
-
-@unittest.skipUnless(os.access("/usr/bin/flock", os.X_OK), "flock isn't installed")
-class Service(Case):
-    """The unit, with other paths, as systemd would run it."""
-
-    def setUp(self):
-        super().setUp()
-        self.page = self.elsewhere(bytes_of(os.path.join(SERVICE, "README.md")).decode())
-        self.does("Install it")
-        self.device = self.at("srv/waffd/device")
-        self.unit = self.at("etc/systemd/system/waffd.service")
-        text = self.elsewhere(bytes_of(self.unit).decode())
-        put_bytes(self.unit, text.encode())
-        self.values = dict(re.findall(r"^(\w+)=(.*)", text.replace("\\\n", ""), re.M))
-
-    def elsewhere(self, text):
-        """A text of the example with other paths, and without the user `waffd`."""
-        text = text.replace("crates/waffd/out/waffd", os.path.abspath(PROGRAM))
-        text = text.replace("runuser -u waffd -- ", "")
-        text = text.replace("-o waffd", "")
-        return re.sub(r'(?<=[ =!"])/(?=usr/local/|etc/|srv\b|run/)', self.folder + "/", text)
-
-    def does(self, heading, number=0):
-        """What the commands of a part of the page print, of one block."""
-        part = self.page.partition(f"\n## {heading}\n")[2].partition("\n## ")[0]
-        blocks = re.findall(r"(?:^    .*\n)+", part, re.M)
-        script = "useradd() { :; }; systemctl() { :; }; sync() { :; }\n" + blocks[number].replace("\n    ", "\n")
-        return subprocess.run(["sh", "-e", "-c", script], cwd=TOP, check=True, stdout=subprocess.PIPE).stdout
-
-    def starts(self, *before):
-        """A server as the unit starts it, behind other words."""
-        shutil.rmtree(self.at("run/waffd"), ignore_errors=True)
-        os.makedirs(self.at("run/waffd"))
-        words = [*before, *shlex.split(self.values["ExecStart"])]
-        return self.started(words, stderr=subprocess.PIPE, umask=int(self.values["UMask"], 8))
-
-    def connects(self):
-        """A client at the socket, once this is there."""
-        client = socket.socket(socket.AF_UNIX)
-        self.addCleanup(client.close)
-        client.settimeout(PATIENCE)
-        for _ in range(1000):
-            if client.connect_ex(self.at("run/waffd/socket")) == 0:
-                return client
-            time.sleep(0.01)
-        self.fail("there is no socket")
-
-    def asks(self, client, lines, replies):
-        """Asserts that a client gets these replies."""
-        client.sendall(lines)
-        self.assertEqual(read_until(client, lambda found: len(found) >= len(replies)), replies)
-
-    def may_start(self):
-        """Whether systemd would start the unit now."""
-        asserts = [line for line in bytes_of(self.unit).decode().splitlines() if line.startswith("Assert")]
-        end = subprocess.run(["systemd-analyze", "condition", *asserts], capture_output=True, check=False)
-        return end.returncode == 0
-
-    def has_stopped(self, server, status, text=b""):
-        """The server has ended so. Then the unit's last command runs."""
-        printed = server.communicate(timeout=LONGEST_RUN)[1]
-        self.assertEqual((printed, server.returncode), (text, status))
-        words = shlex.split(self.values["ExecStopPost"].lstrip("+").replace("$$", "$"))
-        subprocess.run(words, env={**os.environ, "EXIT_STATUS": str(status)}, check=True)
+class Service(fronts.Unit):
+    """The unit, and what the page tells to do with it."""
 
     @unittest.skipUnless(shutil.which("systemd-analyze"), "systemd-analyze isn't installed")
     def test_unit(self):
@@ -131,151 +32,6 @@ class Service(Case):
         put_bytes(self.device, b"")
         self.assertFalse(self.may_start())
 
-    def test_clients(self):
-        """one server answers client after client; a second one has no lock; SIGTERM ends it in order
-
-        One client hangs up before it has its replies, and the next takes nothing."""
-        server = self.starts(*HURRIED)
-        first = self.connects()
-        self.asks(first, FULL_BLOCK, b"done\n" * 3)
-        first.sendall(b"read 0 0 0 0\n" * 1000 + b"create 0 0 1\nmakevol 0 1")
-        first.close()
-        self.connects().sendall(b"".join(MANY[:40]))
-        self.assertEqual(self.does("Talk to it"), b"summary 1 2 1\n")
-        self.assertEqual(os.stat(self.at("run/waffd/socket")).st_mode & 0o77, 0)
-        for words in ([self.at("run/waffd/socket"), "true"], [self.at("other"), self.at("missing")]):
-            end = run(words, program=[self.at("usr/local/lib/waffd/front.py")])
-            self.has_ended(end, 70, b"", lambda text: text and b"Traceback" not in text)
-        self.has_stopped(self.starts(), 75)
-        server.send_signal(signal.SIGTERM)
-        self.has_stopped(server, 0)
-        self.assertIn(b"records 0\n", run(["show", self.device])[1])
-        self.assertFalse(os.path.exists(self.at("run/waffd.fault")))
-
-    def starts_slow_server(self, **env):
-        """A front that lets a silent client go after a second, of a server whose device takes some time to open."""
-        self.put_script("slow", SLOW_SERVER)
-        os.makedirs(self.at("run/waffd"))
-        words = [self.at("usr/local/lib/waffd/front.py"), "--idle", "1", self.at("run/waffd/socket"), self.at("slow")]
-        return self.started(words, cwd=self.folder, env={**os.environ, **env})
-
-    def test_ready(self):
-        """systemd is told that the unit has started once the device is open; a client that came before waits"""
-        told = socket.socket(socket.AF_UNIX, socket.SOCK_DGRAM)
-        self.addCleanup(told.close)
-        told.bind(self.at("notify"))
-        self.starts_slow_server(NOTIFY_SOCKET=self.at("notify"))
-        first = self.connects()
-        first.sendall(b"first\n")
-        told.settimeout(0.5)
-        self.assertRaises(TimeoutError, told.recv, 100)
-        put_bytes(self.at("open"), b"")
-        told.settimeout(PATIENCE)
-        self.assertEqual(told.recv(100), b"READY=1")
-        self.asks(first, b"", b"first\n")
-
-    def test_a_stop_in_the_opening(self):
-        """SIGTERM while the device is opened ends the server in order; a server that can't open it ends the front"""
-        server = self.starts_slow_server()
-        while not os.path.exists(self.at("started")):
-            time.sleep(0.01)
-        server.send_signal(signal.SIGTERM)
-        time.sleep(0.1)
-        put_bytes(self.at("open"), b"")
-        self.assertEqual(server.wait(LONGEST_RUN), 0)
-        put_bytes(self.device, b"no device")
-        server = self.starts()
-        self.has_stopped(server, 1, b"waffd: device too short\n")
-
-    def test_idle(self):
-        """a client that has its replies and is silent for the limit is let go, and one that waits for a reply isn't"""
-        put_bytes(self.at("open"), b"")
-        self.starts_slow_server()
-        first = self.connects()
-        second = self.connects()
-        self.asks(first, b"first\n", b"first\n")
-        second.sendall(b"second\n")
-        self.assertEqual(read_until(first, lambda found: False), b"")
-        self.asks(second, b"", b"second\n")
-
-    def test_a_kill(self):
-        """a client of examples/client goes on where the server is killed and the unit starts it again"""
-        server = self.starts()
-        replies = client.carry_out(lambda: client.connect(self.at("run/waffd/socket")), iter(MANY_CHANGES))
-        found = list(itertools.islice(replies, 100))
-        subprocess.run(["pkill", "-KILL", "-P", str(server.pid)], check=True)
-        self.has_stopped(server, 128 + signal.SIGKILL)
-        self.starts()
-        self.assertEqual([*found, *replies], ["done"] * len(MANY_CHANGES))
-        self.asks(self.connects(), b"label 0 0\n", f"label {LAST_LABEL}\n".encode())
-
-    def test_copy_of_a_server_that_runs(self):
-        """a copy through the front has what was answered before it was let in, and nothing of who comes after
-
-        All three are connected before the first has gone."""
-        server = self.starts()
-        first = self.connects()
-        self.asks(first, b"summary\n", b"summary 0 0 0\n")
-        copying = self.started([COPY, self.at("run/waffd/socket")], stdout=subprocess.PIPE, stderr=subprocess.PIPE)
-        self.waits_for_connections(3)
-        last = self.connects()
-        last.sendall(b"makevol 0 1\nwrite 0 0 0 0 62\n")
-        self.asks(first, FULL_BLOCK, b"done\n" * 3)
-        first.close()
-        lines, told = copying.communicate(timeout=PATIENCE)
-        made = FULL_BLOCK.replace(b"create", b"setlabel 0 0 00\ncreate")
-        self.assertEqual((lines, told), (made + b"summary\n", b"copied 1 1 1\n"))
-        self.assertEqual(read_until(last, lambda found: found.count(b"\n") == 2), b"done\n" * 2)
-        server.kill()
-
-    def test_copy_that_is_lost(self):
-        """a copy whose server is killed tells so, and has written nothing"""
-        server = self.starts()
-        self.asks(self.connects(), b"summary\n", b"summary 0 0 0\n")
-        copying = self.started([COPY, self.at("run/waffd/socket")], stdout=subprocess.PIPE, stderr=subprocess.PIPE)
-        self.waits_for_connections(3)
-        subprocess.run(["pkill", "-KILL", "-P", str(server.pid)], check=True)
-        self.assertEqual(copying.communicate(timeout=PATIENCE), (b"", b"copy: the connection has ended\n"))
-        self.assertEqual(copying.returncode, 1)
-
-    def waits_for_connections(self, count):
-        """Until so many ends have the name of the socket: the listening one, and one for each client."""
-        name = self.at("run/waffd/socket").encode()
-        end = time.monotonic() + PATIENCE
-        while bytes_of("/proc/net/unix").count(name) < count and time.monotonic() < end:
-            time.sleep(0.01)
-
-    def test_stop(self):
-        """at a stop a slow client gets the reply of each line that was read, and no other line is run
-
-        A client that takes nothing is let go."""
-        run(["serve", self.device], FULL_BLOCK)
-        few = self.replies_at_a_stop((), MANY[:2], 1 << 12)
-        self.assertEqual(few.count(b"\n"), REPLIES_OF_ONE * 2)
-        self.has_last_label(few)
-        many = self.replies_at_a_stop((), MANY, 1 << 16)
-        self.assertNotEqual(many.count(b"\n"), REPLIES_OF_ONE * len(MANY))
-        self.has_last_label(many)
-        none = self.replies_at_a_stop(HURRIED, MANY, 0)
-        self.assertNotEqual(none.count(b"\n"), REPLIES_OF_ONE * len(MANY))
-
-    def replies_at_a_stop(self, before, lines, size):
-        """What a client gets that has sent these lines and takes so many bytes at a time, where the server is ended
-        behind the first of them."""
-        server = self.starts(*before)
-        client = self.connects()
-        client.sendall(b"".join(lines))
-        client.recv(1, socket.MSG_PEEK)  # the first lines have been read
-        server.send_signal(signal.SIGTERM)
-        replies = read_until(client, slow_down, size, LONGEST_RUN)
-        self.has_stopped(server, 0)
-        return replies
-
-    def has_last_label(self, replies):
-        """Asserts that the last label that was set is that of the last reply."""
-        last = replies.count(b"done") - 1
-        self.assertEqual(run(["serve", self.device], b"label 0 0\n")[1], b"label %04x01\n" % last)
-
     def test_restart(self):
         """where a program or a folder isn't there the unit isn't started again"""
         final = self.values["RestartPreventExitStatus"].split()
@@ -285,23 +41,61 @@ class Service(Case):
             self.assertIn(status, final)
 
     def test_backup(self):
-        """the commands of the page back a device up, restore it for its user alone, and keep it if repeated"""
-        for number, line in enumerate((b"makevol 0 0\n", b"makevol 0 1\n")):
-            run(["serve", self.device], line)
-            self.does("Back up, restore, upgrade", number)
-        self.does("Back up, restore, upgrade", 2)
+        """the commands of the page back a device up, restore it for its user alone, and keep the one before"""
+        run(["serve", self.device], b"makevol 0 0\n")
+        self.does("Back up")
+        run(["serve", self.device], b"makevol 0 1\n")
+        self.does("Restore a copy")
+        self.does("Upgrade")
         self.does("Install it")
-        self.assertEqual(run(["serve", self.device], b"summary\n")[1], b"summary 1 0 0\n")
+        self.holds_volumes(self.device, 1)
         self.assertEqual(os.stat(self.device).st_mode & 0o777, 0o600)
+        kept, = self.devices_before()
+        self.holds_volumes(kept, 2)
+
+    def holds_volumes(self, device, count):
+        """Asserts that a device holds so many volumes."""
+        self.assertEqual(run(["serve", device], b"summary\n")[1], b"summary %d 0 0\n" % count)
+
+    def devices_before(self):
+        """Those that a restore has kept."""
+        return [os.path.join(self.at("srv/waffd"), name) for name in sorted(os.listdir(self.at("srv/waffd")))
+                if name.startswith("device.")]
+
+    def test_lines(self):
+        """the commands of the page write what a running server holds as lines, with the geometry, and restore them"""
+        g = Geometry(1, 4, 8, 1, 16, 64, 8, 4)
+        run(["format", self.device, *options_of(g)])
+        self.starts()
+        self.asks(self.connects(), FULL_BLOCK, b"done\n" * 3)
+        self.does("Back up while it runs")
+        self.assertTrue(self.does("A drill").endswith(b"the lines can be restored\n"))
+        os.unlink(self.device)  # it is lost, and with it the geometry
+        self.does("Restore lines")
+        shown = run(["show", self.device])[1].decode().splitlines()
+        self.assertEqual((shown[0], shown[3]), (f"geometry {' '.join(map(str, g))}", "summary 1 1 1"))
+        self.assertEqual(self.devices_before(), [])
+
+    def test_the_way_back(self):
+        """the commands of the page lead back after an upgrade, with what was acknowledged since"""
+        old = bytes_of(self.at("usr/local/bin/waffd"))
+        shutil.copy(self.at("usr/local/bin/waffd"), self.at("usr/local/bin/waffd.old"))
+        put_bytes(self.at("usr/local/bin/waffd"), old + b"a later version")
+        run(["serve", self.device], FULL_BLOCK)
+        self.does("Go back after an upgrade")
+        self.assertEqual(bytes_of(self.at("usr/local/bin/waffd")), old)
+        self.does("Restore lines")
+        self.assertEqual(run(["serve", self.device], b"summary\n")[1], b"summary 1 1 1\n")
 
     @unittest.skipUnless(shutil.which("strace"), "strace isn't installed")
     @unittest.skipUnless(shutil.which("systemd-analyze"), "systemd-analyze isn't installed")
     def test_a_failed_sync(self):
-        """after a failed sync the unit may not start"""
+        """after a failed sync the unit may not start, and it is told how full the disk is and whose the device is"""
         inject = f"inject=fdatasync:error=EIO:when={FIRST_SYNC_OF_A_CHANGE}+"
         server = self.starts("strace", "-f", "-o", self.at("calls"), "-e", "trace=fdatasync", "-e", inject)
         self.asks(self.connects(), b"makevol 0 0\n", b"")
-        self.has_stopped(server, 1, b"waffd: device fault\n")
+        _, found = self.has_stopped(server, 1, b"waffd: device fault\n")
+        self.assertRegex(found, f"(?s)Filesystem.* Use%.*\n.* {self.device}\n")
         self.assertIn(b"(INJECTED)", bytes_of(self.at("calls")))
         self.assertFalse(self.may_start())
 
@@ -404,10 +198,10 @@ class Copy(Case):
             self.device("old", COMMON, held)
             self.device("new", to)
             new = bytes_of(self.at("new"))
-            self.has_ended(self.copy(), 1, b"", f"volume 0 3{text}\n".encode())
+            self.has_ended(self.copy(), 1, b"", f"copy: volume 0 3{text}\n".encode())
             self.holds(f"and the new device stays{text}", self.at("new"), new)
         self.device("new", COMMON, ["makevol 0 0"])
-        self.has_ended(self.copy(), 1, b"", b"the new device isn't empty\n")
+        self.has_ended(self.copy(), 1, b"", b"copy: the new device isn't empty\n")
 
     def test_page(self):
         """the commands of the page copy a device; a file or a program that isn't there, and a locked file, are told"""
@@ -416,14 +210,14 @@ class Copy(Case):
         self.device("old", COMMON, ["makevol 0 3"])
         page = bytes_of(os.path.join(os.path.dirname(COPY), "README.md")).decode()
         for command in re.findall(r"^    (.*)", page, re.M):
-            if SOCKET not in command:  # there is none
+            if SOCKETS not in command:  # there is none
                 subprocess.run(command, shell=True, cwd=self.folder, check=True, capture_output=True)
         self.assertEqual(replies_of(run(["serve", self.at("new")], b"summary\n"), "serve"), ["summary 1 0 0"])
         for words in (["missing", "new"], ["old", "missing"], ["old", "new", "missing"]):
             self.has_refused(words, b"copy: missing: No such file or directory\n")
         with open(self.at("new"), "rb") as file:
             fcntl.flock(file, fcntl.LOCK_EX)
-            self.has_refused(["old", "new"], b"copy: new is locked: another process has it\n")
+            self.has_refused(["old", "new"], b"copy: new is served already\n")
         self.has_refused(["old", "old"], b"copy: old and old are one file\n")
         with open("/dev/full", "wb") as full:
             self.has_refused(["old"], b"copy: No space left on device\n", stdout=full)

@@ -13,11 +13,10 @@ import termios
 import time
 import unittest
 
-from program import (
+from .program import (
     DEVICE_FAULT, MADE, PATIENCE, PROGRAM, READ_FAULT, REPLIES, WRITE_FAULT, Case, bytes_of, is_beginning, put_bytes,
     read_until, run)
-from examples import Examples
-from servers import COMMON, SMALL, Device, File, text_of
+from .servers import COMMON, SMALL, Device, File, text_of
 
 HELP = ("--help", "-h", "help", "plain --help", "help plain", "serve --help", "serve -h", "help serve")
 WRONG_WORDS = (

@@ -104,6 +104,15 @@ class Between:
         end = run(words, given, self.env(**{turn: number}), **streams)
         return end if self.happened() else None
 
+    def run_to_fault(self, turn, number, words, given=b""):
+        """The end of a run in which this call of the device fails, and how many calls of it there were in all, the
+        failed one among them; None where there is no such call."""
+        self.happened()
+        path = self.mark + "_counts"
+        end = run(words, given, self.env(COUNTS=path, **{turn: number}))
+        calls, *_ = struct.unpack("4q", bytes_of(path))
+        return (end, calls) if self.happened() else None
+
     def counts(self, path, words, given=b"", **streams):
         """How a run ended, and how many calls of the device, of these those that change it, reads and writes it
         made."""

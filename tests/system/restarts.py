@@ -13,9 +13,9 @@ import tempfile
 import threading
 import time
 
-from program import PROGRAM, REFERENCE, Case, read_until, run
-from meaning import lines_that_read, options_of
-from servers import COMMON, GREATEST, NARROW, SMALL, WIDE, Device, Drawing, plain, replies_of, text_of
+from .program import PROGRAM, REFERENCE, Case, read_until, run
+from .meaning import lines_that_read, options_of
+from .servers import COMMON, GREATEST, NARROW, SMALL, WIDE, Device, Drawing, plain, replies_of, text_of
 
 # Geometry, workers, slots and every.
 SERVERS = (

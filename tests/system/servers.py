@@ -3,8 +3,8 @@ import os
 import random
 import shutil
 
-from program import REFERENCE, bytes_of, put_bytes, run
-from meaning import (
+from .program import REFERENCE, bytes_of, put_bytes, run
+from .meaning import (
     FIELDS, MOST_DIGITS, Geometry, Search, empty_state, lines_that_make, lines_that_read, options_of, state_of_replies)
 
 SMALL = Geometry(1, 1, 2, 1, 2, 4, 2, 4)
