@@ -9,7 +9,7 @@ PATH = pathlib.Path(__file__).resolve().with_name("figures.json")
 
 GEOMETRIES = ("default", "greatest")
 OF_WAFFD = tuple(f"waffd {workers}" for workers in (1, 2, 4))
-ORDINARY = ("batch", "stripe", "twice")
+ORDINARY = ("batch", "once", "twice")
 SLOTS = {
     "write": (1, 16, 64, 256),
     "ordered": (16, 64),

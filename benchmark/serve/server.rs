@@ -5,7 +5,7 @@
 //!
 //!     server make LOG BYTES          makes a log for so many bytes
 //!     server batch LOG LINES         serves with so many outstanding lines
-//!     server stripe LOG LINES        the same, but a change keeps its stripe until it is logged
+//!     server once LOG LINES          the same, but a change keeps its stripe until it is logged
 //!     server twice LOG LINES         the same, and the head of a batch is written and synced behind its lines, as
 //!                                    `waffd` does with its records and gates
 //!     server floor DEVICE            what opening a device has to do at least: microseconds of reading half of it,
@@ -317,7 +317,7 @@ fn main() -> io::Result<()> {
         ["floor", path] => return floor(path),
         ["make", path, size] => return make(path, size.parse().unwrap()),
         [how, path, open] => (*how, *path, open.parse().unwrap()),
-        _ => return Err(io::Error::other("server make|batch|stripe|twice|floor FILE [NUMBER]")),
+        _ => return Err(io::Error::other("server make|batch|once|twice|floor FILE [NUMBER]")),
     };
     let mut server = Server::default();
     let mut log = Log::open(path, &mut server)?;
@@ -325,7 +325,7 @@ fn main() -> io::Result<()> {
     let input = BufReader::with_capacity(1 << 20, io::stdin());
     let mut ends = Ends { input, out: BufWriter::with_capacity(1 << 16, io::stdout().lock()) };
     match how {
-        "stripe" | "twice" => serve_stripes(&mut server, &mut log, &mut ends, open),
+        "once" | "twice" => serve_stripes(&mut server, &mut log, &mut ends, open),
         _ => serve_batches(&mut server, &mut log, &mut ends, open),
     }
 }
