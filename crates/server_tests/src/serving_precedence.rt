@@ -13,12 +13,13 @@ use std::test::Fail;
 use std::thread::Threads;
 use workers::OpenGate;
 
-/// Some lines, after which the input can't be read.
-const LINES: &[u8] = b"makevol 0 0
+/// Some lines, after which the input can't be read. The first one changes nothing, so its reply still waits to be sent when the first
+/// change is logged: if that fails, the reply is sent all the same, and that can fail, too.
+const LINES: &[u8] = b"no message
+makevol 0 0
 create 0 0 0
 write 0 0 0 0 61
 write 0 0 0 1 62
-no message
 read 0 0 0 0
 ";
 
