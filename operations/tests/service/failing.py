@@ -131,7 +131,7 @@ def refused(trial):
         trial.has("the status has the server's line", trial.status(), "waffd: device too short")
         trial.is_refused("after a refused device", f"AssertPathExists=!{FAULT}")
     trial.is_refused("the device is put back", f"AssertPathExists=!{FAULT}")
-    trial.equals("the unit is failed still", trial.shows("ActiveState"), ("failed",))
+    trial.equals("is-active says that it has failed", guest.run("systemctl is-active waffd"), (3, "failed\n"))
     trial.equals("the file is removed: it starts", guest.run(f"rm {FAULT}; systemctl start waffd"), (0, ""))
     trial.judge("refused devices", one)
 
