@@ -60,8 +60,8 @@ def of_run(figures):
         f"processors ({machine['model']}), {machine['kernel']}. Each number is the median of {told['repeat']} rounds. "
         f"A row of writes or mixed lines has {lines:,} lines, one of reads {lines * MORE_READS:,}, and one with 1 "
         f"slot, of one file or of one stripe a tenth of that. The disk takes {number(median(disk))} microseconds "
-        f"({span(disk)}) to write and sync a record. From round to round speeds differ by ±{median(spreads):.0f} "
-        f"percent as a rule, and by ±{spreads[-1]:.0f} percent at most.")
+        f"({span(disk)}) to write and sync a record of the log. From round to round speeds differ by "
+        f"±{median(spreads):.0f} percent as a rule, and by ±{spreads[-1]:.0f} percent at most.")
     if told["load"] > BUSY:
         text += f" **The machine did other work** (load {told['load']})."
     yield text
@@ -162,8 +162,9 @@ def of_speed(figures):
     yield (
         f"With writes spread over all stripes, and 64 or 256 slots, `waffd` does {speeds} writes of full blocks a "
         f"second, at {span(medians('syncs'))} syncs for 1,000 of them. The disk takes {sync} microseconds to write and "
-        f"sync a record. An ordinary unproved Rust server is {times_as_fast('batch')} times as fast as `waffd` with 2 "
-        f"workers, or {times_as_fast('twice')} times if it, too, locks stripes and syncs twice for each batch.")
+        f"sync a record of the log. An ordinary unproved Rust server is {times_as_fast('batch')} times as fast as "
+        f"`waffd` with 2 workers, or {times_as_fast('twice')} times if it, too, locks stripes and syncs twice for each "
+        f"batch.")
 
 
 PAGES = {
