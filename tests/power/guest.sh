@@ -52,7 +52,7 @@ noise() { # changes other files until it is killed
 mount -t proc proc /proc
 mount -t devtmpfs dev /dev
 while read -r module; do insmod "$module"; done </modules
-until [ -e /dev/vport*p3 ]; do usleep 10000; done
+until ls /dev/vport*p3 >/dev/null 2>&1; do usleep 10000; done
 exec 3<>"$(echo /dev/vport*p1)" 5>"$(echo /dev/vport*p2)" 9>"$(echo /dev/vport*p3)"
 did true
 while read -r line <&3; do eval "$line"; done
