@@ -46,7 +46,10 @@ impl Server {
         if *count >= g.quota {
             return Ok(Some(Refusal::Space));
         }
-        self.blocks.insert(BlockKey { b, f, v, a }, *content)?;
+        // Not by `insert`: its result has room for a block that was replaced, which is filled though there is none, at one more copy.
+        self.blocks
+            .entry(BlockKey { b, f, v, a })?
+            .or_insert(*content);
         *count += 1;
         Ok(None)
     }

@@ -1,9 +1,9 @@
 //! The key of a block, by which the server's map of blocks is ordered. It is compared as one number: a search of the map compares some
 //! twenty of them.
 
-ghost use Rattle.std.specs.Prelude.{◌≡◌, ◌+◌, ◌*◌, ◌^◌, refl};
+ghost use Rattle.std.specs.Prelude.{◌≡◌, ◌≤◌, ◌+◌, ◌*◌, ◌^◌, refl};
 ghost use Rattle.std.specs.Cmp.{eq_by_cmp_equiv, partial_equiv_from_equiv, partial_order_from_total};
-ghost use Rattle.std.specs.Ordering.{as_partial_cmp, eq_by_cmp};
+ghost use Rattle.std.specs.Ordering.{as_partial_cmp, eq_by_cmp, nat_cmp};
 ghost use Rattle.meaning.specs.KeyOrders.{block_order};
 ghost use Rattle.plain.specs.Keys.{block_order_total, IsBlockKey};
 
@@ -51,6 +51,20 @@ impl BlockKey {
     }
 }
 
+/// How two numbers are ordered of which the first isn't above the other. A search passes all keys below the one that it looks for: as this
+/// isn't inlined, it does no more for each of them than compare and jump, where it would make an `Ordering` first and then look at that.
+#[inline(never)]
+fn order_up_to(number: u64, others: u64) -> Ordering
+    requires { number ≤ others }
+    ensures { result ≡ nat_cmp number others }
+{
+    if number == others {
+        Ordering::Equal
+    } else {
+        Ordering::Less
+    }
+}
+
 impl PartialEq for BlockKey {
     ghost eq = { eq_by_cmp block_order };
 
@@ -89,11 +103,8 @@ impl Ord for BlockKey {
         let number = self.number();
         let others = other.number();
         if number > others {
-            Ordering::Greater
-        } else if number == others {
-            Ordering::Equal
-        } else {
-            Ordering::Less
+            return Ordering::Greater;
         }
+        order_up_to(number, others)
     }
 }

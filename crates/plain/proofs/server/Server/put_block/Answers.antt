@@ -1,5 +1,5 @@
 -- A block in another's place leaves the counts; a new one adds one to its stripe, unless that is full.
-use Rattle.std.proofs.Common.{rules, refl, IsSome, ◌≡◌, ℕ, ◌+◌, Bool, cond, true, false, None, Some, List, ap, sym, ◌∙◌, subst}
+use Rattle.std.proofs.Common.{rules, refl, IsSome, ◌≡◌, ℕ, ◌+◌, Bool, cond, true, false, None, Some, Option, List, ap, sym, ◌∙◌, subst}
 use Rattle.std.specs.Prelude.{◌||◌, nat_lt, is_some, unwrap_or, if◌then◌else◌}
 use Rattle.std.specs.Option.{option_copied_mut}
 use Rattle.std.specs.BTreeMap as map
@@ -8,10 +8,12 @@ use Rattle.std.specs.Map.{lookup}
 use Rattle.std.proofs.lemmas.Bool.{le-ltb, lt-ltb}
 use Rattle.affinity.specs.declared.geometry.Geometry.{Geometry}
 use Rattle.protocol.specs.declared.messages.Block.{Block}
+use Rattle.protocol.specs.declared.messages.Msg.TheVariants.{Write}
 use Rattle.protocol.specs.declared.replies.Refusal.TheVariants.{Space}
 use Rattle.meaning.specs.State.{State, BlockKey, blocks_in_stripe}
 use Rattle.meaning.proofs.Sums.{one_if}
 use Rattle.meaning.specs.KeyOrders.{file_order, block_order}
+use Rattle.meaning.specs.Step.{effect}
 use Rattle.meaning.proofs.Keys.{one_block}
 use Rattle.plain.specs.Server.{StripeKey, is_stripe, server_state, noted}
 use Rattle.plain.proofs.ServerCounts.{noted_again, noted_one_more}
@@ -28,6 +30,18 @@ as_noted : (es fs : List (StripeKey × ℕ)) (wanted : StripeKey → ℕ) → es
     → ((k : StripeKey) → unwrap_or (lookup (is_at (file_order k)) fs) 0 ≡ wanted k) → (k : StripeKey) → unwrap_or (lookup (is_at (file_order k)) es) 0
     ≡ wanted k
 as_noted es fs wanted e h k = ap (λ es. unwrap_or (lookup (is_at (file_order k)) es) 0) e ∙ h k
+
+-- what is found in a map is what is found in its entries
+as_found : (es fs : List (BlockKey × Block)) (wanted : BlockKey → Option Block) → es ≡ fs → ((k : BlockKey) → lookup (is_at (block_order k)) fs ≡ wanted k)
+    → (k : BlockKey) → lookup (is_at (block_order k)) es ≡ wanted k
+as_found es fs wanted e h k = ap (λ es. lookup (is_at (block_order k)) es) e ∙ h k
+
+-- entries that have one block more, or another content there, hold the state after the write
+written : (x : State) (a v f b : ℕ) (content : Block) (es : List (BlockKey × Block))
+    → ((k : BlockKey) → lookup (is_at (block_order k)) es ≡ cond (is_at (block_order (a, v, f, b)) k) (Some content) (x.blocks k))
+    → record x { blocks = λ k. lookup (is_at (block_order k)) es } ≡ effect x (Write a v f b content)
+written x a v f b content es updates =
+    λ i. record x { blocks = one_block x.blocks (λ k. lookup (is_at (block_order k)) es) a v f b content updates i }
 
 -- no block is there, so the stripe decides
 by_stripe : {n count : ℕ} {there : Bool} (quota : ℕ) (t : Bool) → there ≡ false → count ≡ n → nat_lt count quota ≡ t → (there || nat_lt n quota) ≡ t
@@ -67,8 +81,8 @@ returns-then-count-g-clause-counted c =
     (λ k. (c.in_ok-self.ensures.update.0 c.or_insert-count.result.now).0 k)
     (c.or_insert-count.ensures.value ∙ ap (λ o. unwrap_or o 0) c.in_ok-self.ensures.value) k ∙ c.requires.counted k))
 
-pub returns-in_err-insert-clause-counted : goal.returns-in_err-insert-clause-counted
-returns-in_err-insert-clause-counted c =
+pub returns-in_err-self-2-clause-counted : goal.returns-in_err-self-2-clause-counted
+returns-in_err-self-2-clause-counted c =
     same_counted c.args.g.now (server_state c.args.self.now) _ _ (λ k. search rules)
     (as_noted _ _ _ (search rules)
     (λ k. noted_again (map.get file_order c.args.self.now.block_counts) (λ k. lookup (is_at (file_order k)) _) c.args.a c.args.v c.group_of.result c.or_insert-count.result.now
@@ -76,11 +90,14 @@ returns-in_err-insert-clause-counted c =
     (c.or_insert-count.ensures.value ∙ ap (λ o. unwrap_or o 0) c.in_ok-self.ensures.value) k ∙ c.requires.counted k))
 
 pub returns-clause-state : goal.returns-clause-state
-returns-clause-state c = λ i. record (server_state c.args.self.now) {
-  blocks = one_block (map.get block_order c.args.self.now.blocks) (map.get block_order c.insert.new.self) c.args.a c.args.v c.args.f c.args.b c.args.content.now
-      (λ k. c.in_ok-insert.ensures.updates.0 k ∙ ap (cond (is_at (block_order (c.args.a, c.args.v, c.args.f, c.args.b)) k) (Some c.args.content.now))
-      (ap (λ m. map.get block_order m k) c.get_mut.follows.holds-at-none)) i;
-}
+returns-clause-state c =
+    let key : BlockKey = (c.args.a, c.args.v, c.args.f, c.args.b) in
+    let kept = c.get_mut.follows.holds-at-none in
+    let absent = ap (λ m. map.get block_order m key) kept ∙ sym c.get_mut.ensures.value ∙ ap option_copied_mut c.in_default.is in
+    let content = c.or_insert.ensures.value ∙ ap (λ o. unwrap_or o c.args.content.now) (c.in_ok-self-2.ensures.value ∙ absent) in
+    written (server_state c.args.self.now) c.args.a c.args.v c.args.f c.args.b c.args.content.now _ (as_found _ _ _ (search rules)
+    (λ k. (c.in_ok-self-2.ensures.update.0 c.or_insert.result.now).0 k
+    ∙ (λ i. cond (is_at (block_order key) k) (Some (content i)) (map.get block_order (kept i) k))))
 
 pub returns-clause-counted : goal.returns-clause-counted
 returns-clause-counted c =
