@@ -31,9 +31,9 @@ is_idle slots c just = record { none_waits = just.none_waits; none_held = rw (ju
 
 -- ---- how often the device failed
 
-module _ {keeps : Type 0} (workers : ℕ) (old : Medium) (start now : CoreView) (x : Exchange) (no_fault : start.medium.faults ≡ old.faults)
+module _ {keeps : Type 0} (workers every : ℕ) (old : Medium) (start now : CoreView) (x : Exchange) (no_fault : start.medium.faults ≡ old.faults)
     (works : start.failed ≡ false) where
-  fails_if : (end : Result (Unit {0}) ServeFault) → ServePromise keeps workers start (now, end) x → now.medium.faults ≡ old.faults + cond now.failed 1 0
+  fails_if : (end : Result (Unit {0}) ServeFault) → ServePromise keeps workers every start (now, end) x → now.medium.faults ≡ old.faults + cond now.failed 1 0
   fails_if end served =
       let segment = served.run.served.run.segment in
       let machine = machine_of (machine_with_jobs start (replicate workers None)) in
@@ -42,11 +42,11 @@ module _ {keeps : Type 0} (workers : ℕ) (old : Medium) (start now : CoreView) 
       let after = ap (λ (m : Medium). m.faults) segment.leads.device in
       omega (arith, once, last, after, no_fault)
 
-  by_end : (failed : Bool) (end : Result (Unit {0}) ServeFault) → now.failed ≡ failed → ServePromise keeps workers start (now, end) x
+  by_end : (failed : Bool) (end : Result (Unit {0}) ServeFault) → now.failed ≡ failed → ServePromise keeps workers every start (now, end) x
       → now.medium.faults ≡ old.faults + cond failed 1 0
   by_end failed end is served = rw is at (fails_if end served)
 
-  pub faults_counted : (end : Result (Unit {0}) ServeFault) → ServePromise keeps workers start (now, end) x → CountsFaults old now.medium end
+  pub faults_counted : (end : Result (Unit {0}) ServeFault) → ServePromise keeps workers every start (now, end) x → CountsFaults old now.medium end
   faults_counted (Err faults.Device) served = by_end true (Err faults.Device) served.ends.0 served
   faults_counted (Err faults.Write) served = omega (arith, fails_if (Err faults.Write) served, at_most_one now.failed)
   faults_counted (Err faults.NoWorkers) served = ap (λ (c : CoreView). c.medium.faults) served.ends.0 ∙ no_fault
@@ -71,7 +71,7 @@ module _ (keeps : Type 0) (s : ServeOptions) (old : Medium) (start now : CoreVie
 
   abbrev pub has_served_by : IsJustOpened s.slots start → RecoveredTo keeps old start.geometry (committed_in start)
       → (keeps → OpeningCrashImages old start.medium) → start.medium.faults ≡ old.faults
-      → ServePromise keeps s.workers start (now, end) x
+      → ServePromise keeps s.workers s.every start (now, end) x
       → (keeps → RecoversNow now) → HasServedBy keeps s old now.medium end x
   has_served_by fresh before opening no_fault served leaves = record {
     start = start;
@@ -83,7 +83,7 @@ module _ (keeps : Type 0) (s : ServeOptions) (old : Medium) (start now : CoreVie
     served = served;
     leaves = leaves;
     given_back = refl;
-    counts = faults_counted s.workers old start now x no_fault fresh.works end served;
+    counts = faults_counted s.workers s.every old start now x no_fault fresh.works end served;
     fail_stop =
         let segment = served.run.served.run.segment in
         fail_stop start.geometry (machine_of (machine_with_jobs start (replicate s.workers None))) start.medium segment.device_events

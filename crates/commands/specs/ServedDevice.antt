@@ -117,7 +117,7 @@ pub record HasServedBy (keeps : Type 0) (s : ServeOptions) (old new : Medium) (e
   pub opening : keeps → OpeningCrashImages old start.medium
   -- no call of the device failed while it was opened
   pub no_fault : start.medium.faults ≡ old.faults
-  pub served : ServePromise keeps s.workers start (now, end) x
+  pub served : ServePromise keeps s.workers s.every start (now, end) x
   -- whatever a crash leaves now recovers to the committed state with a prefix of the messages in `doubt`
   pub leaves : keeps → RecoversNow now
   pub given_back : new ≡ now.medium

@@ -62,7 +62,7 @@ fn run_opened<T: Threads + Wait + Sync, R: Read, W: Write, D: Disk + Drop>(
         → KeepsPromise (server_on g) (are_in_conflict g) server service.slots (R.remaining r.old) false
         (W.contents w.old) (W.contents w.old) c }
     requires fresh { IsJustOpened service.slots core }
-    ensures { ServePromise D.keeps service.workers core result
+    ensures { ServePromise D.keeps service.workers service.every core result
         (exchange (R.remaining r.old) (R.remaining r.new) (W.contents w.old) (W.contents w.new)) }
 {
     let _ = found;

@@ -8,7 +8,8 @@ use Rattle.histories.proofs.Elements.{contains_in, in_contained, IsIn, in_left, 
 use Rattle.histories.specs.declared.outcomes.Outcome.TheVariants as outcomes
 use Rattle.histories.specs.declared.outcomes.Step.TheVariants as steps
 use Rattle.scheduler.proofs.MachineSteps.{core_holds, core_step}
-use Rattle.scheduler.specs.Machine.{MachineView}
+use Rattle.scheduler.specs.DeviceEvents.{events_of}
+use Rattle.scheduler.specs.Machine.{MachineView, machine_of}
 use Rattle.scheduler.specs.IsMachineStep.{IsCoreStep}
 use Rattle.scheduler.specs.declared.hands.HandContent.{HandContent}
 use Rattle.protocol.specs.Grammar.{message_of}
@@ -17,10 +18,12 @@ use Rattle.protocol.specs.declared.replies.Reply.{Reply}
 use Rattle.scheduler.specs.Calls.{answer_outcome}
 use Rattle.scheduler.specs.CoreView.{CoreView}
 use Rattle.serving.specs.Lines.{Completed, AreKnown, IsKnown, Line, NoMessage, NoneIsTo, OutOfRange, Pending, complete_one, admitted, admitted_in, has_answer, next_ticket, ticketed}
+use Rattle.serving.specs.Checkpoints.{DispatchInTime, trigger_after}
 use Rattle.serving.specs.Progress.{ServingProgress}
 use Rattle.serving.specs.Runs.{HandsHaveJobs, IsInternal, RunsBetween}
+use Rattle.serving.specs.declared.checkpoints.CheckpointTrigger.{CheckpointTrigger}
 use Rattle.serving.proofs.RunsBetween.{passes_on, told_as}
-use Rattle.serving.proofs.Segments.{core_is_quiet, step_passes}
+use Rattle.serving.proofs.Segments.{core_is_quiet, step_in_time, step_passes}
 
 module _ (g : Geometry) (reply_pairs : List (ℕ × Reply)) (ticket : ℕ) (reply : Reply) where
   abbrev more : List (ℕ × Reply)
@@ -102,19 +105,24 @@ answered_goes_on {start} {ticket} {reply} {unsent} p h =
 
 -- The message with this ticket was answered with this reply; or (`None`) no message was answered.
 abbrev pub IsAnswered : Type 0 → MachineView → MachineView → Option (ℕ × Reply) → Type 0
-IsAnswered keeps old new None = IsInternal keeps old new
-IsAnswered keeps old new (Some reply_pairs) = HandsHaveJobs new × RunsBetween keeps old new [] (reply_pairs ∷ [])
+IsAnswered keeps old new None = (trigger : CheckpointTrigger) → IsInternal keeps trigger trigger old new
+IsAnswered keeps old new (Some a) = HandsHaveJobs new × (r : RunsBetween keeps old new [] (a ∷ []))
+    × ((trigger : CheckpointTrigger) → DispatchInTime trigger (machine_of old) (events_of r.device_events) (trigger_after trigger a.1))
 
 pub is_answered_so : (keeps : Type 0) (old new : CoreView) (r : Option (ℕ × Reply)) → IsCoreStep keeps old new steps.Answer (answer_outcome r)
     → (hands : List HandContent) → HandsHaveJobs (record { core = old; hands = hands })
     → IsAnswered keeps (record { core = old; hands = hands }) (record { core = new; hands = hands }) r
-is_answered_so keeps old new None k hands h = core_is_quiet steps.Answer outcomes.Idle k refl refl refl h
+is_answered_so keeps old new None k hands h = core_is_quiet steps.Answer outcomes.Idle k refl refl (refl, refl, λ trigger. refl) h
 is_answered_so keeps old new (Some a) k hands h =
     let outcome = outcomes.Answered a.0 a.1 in
-    (core_holds keeps old new hands steps.Answer outcome h k refl, step_passes (core_step keeps old new hands steps.Answer outcome h k))
+    let did = core_step keeps old new hands steps.Answer outcome h k in (
+      core_holds keeps old new hands steps.Answer outcome h k refl,
+      step_passes did,
+      λ trigger. step_in_time did trigger (λ is. absurd (true≢false (sym is))),
+    )
 
 -- where no message was answered
 pub none_answered : (keeps : Type 0) (old new : MachineView) (r : Option (ℕ × Reply)) → ((reply_pairs : ℕ × Reply) → r ≡ Some reply_pairs → ⊥)
-    → IsAnswered keeps old new r → IsInternal keeps old new
+    → IsAnswered keeps old new r → (trigger : CheckpointTrigger) → IsInternal keeps trigger trigger old new
 none_answered keeps old new (Some reply_pairs) not a = absurd (not reply_pairs refl)
 none_answered keeps old new None not a = a

@@ -1,6 +1,7 @@
 -- What is collected from the bench: the job of a place has run, and its result is given back.
-use Rattle.std.proofs.Common.{◌≡◌, ℕ, ◌<◌, true, false, List, [], Option, Some, None, refl, ap, ◌∙◌, length, map, set, arith}
+use Rattle.std.proofs.Common.{◌≡◌, ℕ, ◌<◌, true, false, List, [], Option, Some, None, refl, ap, sym, ◌∙◌, length, map, set, arith}
 use Rattle.std.specs.Prelude.{option_map, slice_get, get_or}
+use Rattle.std.proofs.lemmas.Bool.{true≢false}
 use Rattle.std.proofs.lemmas.Option.{slice_get-get_or, slice_get-map}
 use Rattle.std.proofs.lemmas.List.{get_or-set_same, length-map, map-set, length-set, set-set}
 use Rattle.histories.specs.Events.{give_back, find_in_flight}
@@ -16,8 +17,10 @@ use Rattle.parcel.specs.declared.job.Done.{Done}
 use Rattle.scheduler.specs.Jobs.{IsResultOf}
 use Rattle.scheduler.specs.CoreView.{CoreView, RecoversNow, core_state_of}
 use Rattle.serving.specs.Runs.{HandsHaveJobs, IsInternal, lent_hand, machine_with_jobs}
+use Rattle.serving.specs.declared.checkpoints.CheckpointTrigger.{CheckpointTrigger}
 use Rattle.serving.proofs.RunsBetween.{passes_on}
-use Rattle.serving.proofs.Segments.{step_passes}
+use Rattle.serving.proofs.DispatchInTime.{in_time_on}
+use Rattle.serving.proofs.Segments.{step_in_time, step_passes}
 use Rattle.workers.specs.Rule.{lent_at}
 
 -- ---- hands and places
@@ -54,9 +57,13 @@ module _ (keeps : Type 0) (core : CoreView) (lent : List (Option JobView)) (none
   module _ (new : CoreView) (geometry : new.geometry ≡ core.geometry) (same : new.medium ≡ core.medium) (found : Entry × List Entry)
       (one_out : find_in_flight (core_state_of core) done.ticket ≡ Some found) (reply_pairs : found.0 ≡ (done.ticket, done.message))
       (state_after : core_state_of new ≡ give_back core.geometry (core_state_of core) found) where
-    pub gives_back : IsInternal keeps (machine_with_jobs core lent) (machine_with_jobs new (set lent k None))
-    gives_back = rw (map-set lent_hand lent k None, ← set-set hands k (has.Result done) has.Empty) (record {
-      holds = back_holds keeps core ran none recovers moved.1 k done result_there new geometry same found one_out reply_pairs state_after;
-      segment = passes_on (step_passes moved.0)
-          (step_passes (back_step keeps core ran none recovers moved.1 k done result_there new geometry same found one_out reply_pairs state_after));
-    })
+    pub gives_back : (trigger : CheckpointTrigger) → IsInternal keeps trigger trigger (machine_with_jobs core lent) (machine_with_jobs new (set lent k None))
+    unfolding passes_on
+    gives_back trigger =
+        let back = back_step keeps core ran none recovers moved.1 k done result_there new geometry same found one_out reply_pairs state_after in
+        rw (map-set lent_hand lent k None, ← set-set hands k (has.Result done) has.Empty) (record {
+          holds = back_holds keeps core ran none recovers moved.1 k done result_there new geometry same found one_out reply_pairs state_after;
+          segment = passes_on (step_passes moved.0) (step_passes back);
+          in_time = in_time_on _ _ _ (step_passes moved.0) (step_passes back)
+              (step_in_time moved.0 trigger (λ is. absurd (true≢false (sym is)))) (step_in_time back trigger (λ is. absurd (true≢false (sym is))));
+        })

@@ -1,10 +1,17 @@
--- Worked examples, by computing: which lines take tickets, what is known of lines, and for how many turns a line may wait.
-use Rattle.std.proofs.Common.{◌≡◌, ℕ, List, [], ◌∷◌, map, refl, lit≤, ap, arith, ⊎_elim}
+-- Worked examples, by computing: which lines take tickets, what is known of lines, for how many turns a line may wait, and when no message
+-- is dispatched.
+use Rattle.std.proofs.Common.{◌≡◌, ℕ, false, List, [], ◌∷◌, None, map, refl, sym, lit≤, ap, arith, ⊎_elim}
+use Rattle.std.proofs.lemmas.Bool.{true≢false}
 use Rattle.std.specs.Prelude.{codes}
 use Rattle.affinity.proofs.GeometryLemmas.{small}
 use Rattle.affinity.specs.Geometry.{default_geometry}
 use Rattle.image.specs.Pieces.{piece_count}
 use Rattle.histories.proofs.Elements.{in_contained}
+use Rattle.histories.specs.Events.{Event}
+use Rattle.histories.specs.MachineState.{MachineState}
+use Rattle.histories.specs.declared.outcomes.Outcome.{Outcome}
+use Rattle.histories.specs.declared.outcomes.Outcome.TheVariants as outcomes
+use Rattle.histories.specs.declared.outcomes.Step.TheVariants as steps
 use Rattle.protocol.specs.Grammar.{kind_named, message_of}
 use Rattle.protocol.specs.Words.{number_in_word}
 use Rattle.protocol.specs.declared.messages.Msg.TheVariants.{MakeVol, Create, Summary as AskSummary}
@@ -12,6 +19,7 @@ use Rattle.protocol.specs.declared.replies.Reply.{Reply}
 use Rattle.protocol.specs.declared.replies.Reply.TheVariants.{Done, Summary}
 use Rattle.meaning.specs.Output.{joined, output_lines}
 use Rattle.meaning.specs.State.{empty}
+use Rattle.serving.specs.Checkpoints.{WaitsForCheckpoints}
 use Rattle.serving.specs.Lines.{Completed, AreKnown, NoMessage, NoneIsTo, OutOfRange, Pending, admitted, next_ticket, answer_text, ticketed}
 use Rattle.serving.specs.Turns.{turns_an_answer}
 
@@ -74,3 +82,27 @@ the_same_as_the_serial_server = refl
 -- at the default geometry, whose images have 20 pieces, with 16 slots
 turns_by_default : turns_an_answer (piece_count default_geometry) 16 ≡ 19110
 turns_by_default = refl
+
+-- ---- checkpoints that are due
+
+-- events while no checkpoint is in progress
+module _ (w : MachineState) (none : w.core.pieces_left ≡ None) where
+  abbrev event : Outcome → Event
+  event outcome = record { step = steps.Grant; outcome = outcome; device_failed = false; state_after = w }
+
+  -- Where one is due after each record, no message is dispatched once a change is answered.
+  none_is_dispatched : WaitsForCheckpoints 1 w (event (outcomes.Answered 7 Done) ∷ event (outcomes.Granted 0 8) ∷ []) → ⊥
+  none_is_dispatched h = h.1.1.0 refl (record { none = none; by_count = λ e. absurd (omega (arith, e)); enough = lit≤ tt })
+
+  -- Once the checkpoint has begun, the next one is.
+  dispatched_behind_the_cut : WaitsForCheckpoints 1 w (event (outcomes.Answered 7 Done) ∷ event outcomes.Cut ∷ event (outcomes.Granted 0 8) ∷ [])
+  dispatched_behind_the_cut =
+      (_, (λ is. absurd (true≢false (sym is)), (λ is. absurd (true≢false (sym is)), (λ is due. let enough = due.enough in absurd (omega (arith, enough)), refl))))
+
+  -- A message that changes nothing is not counted.
+  a_read_is_not_counted : WaitsForCheckpoints 1 w (event (outcomes.Answered 7 (Summary 1 0 0)) ∷ event (outcomes.Granted 0 8) ∷ [])
+  a_read_is_not_counted = (_, (λ is. absurd (true≢false (sym is)), (λ is due. let enough = due.enough in absurd (omega (arith, enough)), refl)))
+
+  -- With 0 none is due by their count.
+  none_is_due : WaitsForCheckpoints 0 w (event (outcomes.Answered 7 Done) ∷ event (outcomes.Granted 0 8) ∷ [])
+  none_is_due = (_, (λ is. absurd (true≢false (sym is)), (λ is due. due.by_count refl, refl)))

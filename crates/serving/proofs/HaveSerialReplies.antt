@@ -14,7 +14,6 @@ use Rattle.protocol.specs.Grammar.{message_of}
 use Rattle.protocol.specs.Messages.{is_in_range, kind, four_numbers}
 use Rattle.protocol.specs.Replies.{reply_line}
 use Rattle.protocol.specs.declared.messages.Msg.{Msg}
-use Rattle.protocol.specs.declared.replies.Refusal.{Refusal}
 use Rattle.protocol.specs.declared.replies.Refusal.TheVariants.{Range}
 use Rattle.protocol.specs.declared.replies.Reply.{Reply}
 use Rattle.protocol.specs.declared.replies.Reply.TheVariants.{Refused}

@@ -65,6 +65,6 @@ stops_at_refusal {why = arrivals.Range} unread remaining drained line is found r
 stops_at_refusal {why = arrivals.Full} unread remaining drained line is found r fits = absurd (fits r.refused)
 stops_at_refusal {old} {m} {why = arrivals.Exhausted} unread remaining drained line is found r fits =
     let so = shows old.core.geometry (core_state_of old.core) m r.refused in
-    (passes_next r.quiet.segment ∙ so.1, (line, m, found, is, so.0))
+    (passes_next (r.quiet (record { every = 0; answered_since = 0 })).segment ∙ so.1, (line, m, found, is, so.0))
 stops_at_refusal {old} {m} {why = arrivals.Failed} unread remaining drained line is found r fits =
-    still_failed r.quiet.segment (shows old.core.geometry (core_state_of old.core) m r.refused)
+    still_failed (r.quiet (record { every = 0; answered_since = 0 })).segment (shows old.core.geometry (core_state_of old.core) m r.refused)

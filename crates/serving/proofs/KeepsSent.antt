@@ -17,6 +17,7 @@ use Rattle.serving.specs.Start.{Start, start_machine}
 use Rattle.serving.specs.Progress.{IsServing}
 use Rattle.serving.specs.Restart.{WritesBeginning}
 use Rattle.serving.specs.SessionInvariant.{KeepsSent, ServingSince}
+use Rattle.serving.specs.declared.checkpoints.CheckpointTrigger.{CheckpointTrigger}
 use Rattle.serving.proofs.MaySend.{still_in_history}
 use Rattle.serving.proofs.HoldsSent.{holds_logged, serving_kept}
 use Rattle.serving.proofs.KeepsPromise.{keeps_written}
@@ -101,7 +102,7 @@ module _ {keeps : Type 0} {s : Start} {now : MachineView} {consumed : List (List
 module _ {keeps : Type 0} {s : Start} {now : MachineView} {unsent : List Line} {unread : Option (List ℕ)} {drained : Bool} {whole sent : Option (List ℕ)}
     {sent_at : Medium} (idle : IsIdle (core_state_of s.core)) (none : s.core.doubt ≡ []) (no_doubt : now.core.failed ≡ false → now.core.doubt ≡ [])
     (recovers : keeps → RecoversNow now.core) where
-  pub safe_since : length unsent ≤ s.core.slots → ServingSince keeps s now unsent unread drained whole sent_at sent
+  pub safe_since : {trigger : CheckpointTrigger} → length unsent ≤ s.core.slots → ServingSince keeps s trigger now unsent unread drained whole sent_at sent
       → IsKillSafeFrom keeps s sent sent_at now.core
   unfolding has_served
   safe_since few h kept c since =

@@ -1,5 +1,6 @@
 -- One step of a run, after those before it.
-use Rattle.std.proofs.Common.{◌≡◌, ℕ, Bool, List, [], Result, Ok, Err, refl, ap, sym, ◌∙◌, append-nil, false, true, Option}
+use Rattle.std.proofs.Common.{◌≡◌, ℕ, Bool, List, [], ◌∷◌, Result, Ok, Err, refl, ap, sym, subst, ◌∙◌, append-nil, false, true, Option}
+use Rattle.std.proofs.lemmas.Bool.{true≢false}
 use Rattle.histories.specs.Crash.{to_append}
 use Rattle.histories.specs.MachineState.{MachineState}
 use Rattle.histories.specs.Events.{batch, touches_device, dispatches_or_returns}
@@ -13,23 +14,41 @@ use Rattle.histories.specs.declared.outcomes.Step.{Step}
 use Rattle.histories.specs.declared.outcomes.Step.TheVariants as steps
 use Rattle.scheduler.proofs.MachineSteps.{core_holds, core_step}
 use Rattle.scheduler.proofs.FailStop.{run_fails}
-use Rattle.scheduler.proofs.HasRun.{one_leads}
+use Rattle.scheduler.proofs.HasRun.{one_leads, step_event}
+use Rattle.scheduler.specs.DeviceEvents.{events_of}
 use Rattle.scheduler.specs.Machine.{MachineView, machine_of}
 use Rattle.scheduler.specs.IsMachineStep.{IsCoreStep, IsMachineStep}
 use Rattle.scheduler.specs.declared.hands.HandContent.{HandContent}
 use Rattle.protocol.specs.declared.replies.Reply.{Reply}
 use Rattle.scheduler.specs.Calls.{CountsFailure, IsCallEvent, log_device_failed, checkpoint_device_failed}
 use Rattle.scheduler.specs.CoreView.{CoreView, RecoversThroughout, core_state_of}
+use Rattle.serving.specs.Checkpoints.{DispatchInTime, IsDue, is_dispatched_by, trigger_after_event}
 use Rattle.serving.specs.Lines.{Line, admitted, ticketed}
 use Rattle.serving.specs.Progress.{ServingProgress}
 use Rattle.serving.specs.Runs.{HandsHaveJobs, IsInternal, RunsBetween}
+use Rattle.serving.specs.declared.checkpoints.CheckpointTrigger.{CheckpointTrigger}
 use Rattle.serving.proofs.RunsBetween.{passes_on, told_as}
 use Rattle.scheduler.proofs.IsCallEvent.{log_outcome, step_outcome}
 
 module _ {keeps : Type 0} {old new : MachineView} {step : Step} {outcome : Outcome} (k : IsMachineStep keeps old new step outcome) where
   -- A step is a segment of a run.
-  pub step_passes : RunsBetween keeps old new (arrives step outcome) (answers outcome)
-  step_passes = search (one_leads k, append-nil (arrives step outcome), append-nil (answers outcome))
+  unfoldable pub step_passes : RunsBetween keeps old new (arrives step outcome) (answers outcome)
+  step_passes = record {
+    device_events = step_event k ∷ [];
+    leads = one_leads k;
+    arrived_are = append-nil (arrives step outcome);
+    reply_pairs_are = append-nil (answers outcome);
+  }
+
+  pub step_in_time : (trigger : CheckpointTrigger) → (is_dispatched_by outcome ≡ true → IsDue trigger old.core.pieces_left → ⊥)
+      → DispatchInTime trigger (machine_of old) (events_of step_passes.device_events) (trigger_after_event trigger outcome)
+  unfolding step_passes
+  step_in_time trigger not_due = (not_due, refl)
+
+-- In an event with this outcome no message is answered or dispatched. It counts the trigger on so.
+abbrev pub IsQuiet : Outcome → (CheckpointTrigger → CheckpointTrigger) → Type 0
+IsQuiet outcome after =
+    (answers outcome ≡ []) × (is_dispatched_by outcome ≡ false) × ((trigger : CheckpointTrigger) → trigger_after_event trigger outcome ≡ after trigger)
 
 -- A segment in which no message arrives and none is answered leaves what is known of the lines as it was.
 unfoldable pub quiet_goes_on : {keeps : Type 0} {start old new : MachineView} {unsent : List Line} {input unread : Option (List ℕ)} {ended : Bool}
@@ -58,56 +77,74 @@ still_failed {old} p failed =
     ap (λ (w : MachineState). w.core.failed) (sym p.leads.ends) ∙ run_fails old.core.geometry (machine_of old) _ p.leads.legal failed
 
 -- A step of the core alone, in which nothing arrives or is answered, and nothing is dispatched or collected.
-pub core_is_quiet : {keeps : Type 0} {old new : CoreView} {hands : List HandContent} (step : Step) (outcome : Outcome) → IsCoreStep keeps old new step outcome
-    → dispatches_or_returns step ≡ false → arrives step outcome ≡ [] → answers outcome ≡ [] → HandsHaveJobs (record { core = old; hands = hands })
-    → IsInternal keeps (record { core = old; hands = hands }) (record { core = new; hands = hands })
-core_is_quiet {keeps} {old} {new} {hands} step outcome k still none_come none_told h =
+pub core_is_quiet : {keeps : Type 0} {old new : CoreView} {hands : List HandContent} {after : CheckpointTrigger → CheckpointTrigger} (step : Step)
+    (outcome : Outcome) → IsCoreStep keeps old new step outcome → dispatches_or_returns step ≡ false
+    → arrives step outcome ≡ [] → IsQuiet outcome after → HandsHaveJobs (record { core = old; hands = hands }) → (trigger : CheckpointTrigger)
+    → IsInternal keeps trigger (after trigger) (record { core = old; hands = hands }) (record { core = new; hands = hands })
+core_is_quiet {keeps} {old} {new} {hands} {after} step outcome k still none_come quiet h trigger =
+    let did = core_step keeps old new hands step outcome h k in
     record {
       holds = core_holds keeps old new hands step outcome h k still;
-      segment = rw (none_come, none_told) at (step_passes (core_step keeps old new hands step outcome h k));
+      segment = told_as (step_passes did) none_come quiet.0;
+      in_time = subst (DispatchInTime trigger (machine_of (record { core = old; hands = hands })) (events_of (step_passes did).device_events)) (quiet.2 trigger)
+          (step_in_time did trigger (λ is. absurd (true≢false (sym is ∙ quiet.1))));
     }
 
 -- ---- logs
 
-no_answer_of_log : (r : Result ℕ CoreFault) → answers (log_outcome r) ≡ []
-no_answer_of_log (Ok count) = refl
-no_answer_of_log (Err why) = refl
+quiet_log : (r : Result ℕ CoreFault) → IsQuiet (log_outcome r) (λ trigger. trigger)
+quiet_log (Ok count) = (refl, refl, λ trigger. refl)
+quiet_log (Err why) = (refl, refl, λ trigger. refl)
 
 -- ---- steps of a point
 
-no_answer_of_point : {T : Type 0} (made : T → Outcome) → ((x : T) → answers (made x) ≡ []) → (r : Result T PointRefusal)
-    → answers (step_outcome made r) ≡ []
-no_answer_of_point made none (Ok x) = none x
-no_answer_of_point made none (Err why) = refl
+quiet_step : {T : Type 0} (made : T → Outcome) → ((x : T) → IsQuiet (made x) (λ trigger. trigger)) → (r : Result T PointRefusal)
+    → IsQuiet (step_outcome made r) (λ trigger. trigger)
+quiet_step made none (Ok x) = none x
+quiet_step made none (Err why) = (refl, refl, λ trigger. refl)
+
+-- the trigger after a cut with this result
+abbrev pub after_cut : Result (Unit {0}) PointRefusal → CheckpointTrigger → CheckpointTrigger
+after_cut (Ok _) trigger = record trigger { answered_since = 0 }
+after_cut (Err _) trigger = trigger
+
+quiet_cut : (r : Result (Unit {0}) PointRefusal) → IsQuiet (step_outcome (λ _. outcomes.Cut) r) (after_cut r)
+quiet_cut (Ok x) = (refl, refl, λ trigger. refl)
+quiet_cut (Err why) = (refl, refl, λ trigger. refl)
 
 -- ---- steps of the core that move no job
 
 module _ (keeps : Type 0) (old new : CoreView) (geometry : new.geometry ≡ old.geometry) where
-  abbrev IsStepOf : Step → Outcome → Bool → Type 0
-  IsStepOf step outcome device_failed = IsCallEvent old.geometry (core_state_of old) (core_state_of new) step outcome device_failed → CountsFailure device_failed old.medium.faults new.medium.faults
+  abbrev IsStepOf : Step → Outcome → Bool → (CheckpointTrigger → CheckpointTrigger) → Type 0
+  IsStepOf step outcome device_failed after =
+      IsCallEvent old.geometry (core_state_of old) (core_state_of new) step outcome device_failed → CountsFailure device_failed old.medium.faults new.medium.faults
       → (touches_device (core_state_of old) step ≡ false → new.medium ≡ old.medium)
-      → (hands : List HandContent) → HandsHaveJobs (record { core = old; hands = hands })
-      → IsInternal keeps (record { core = old; hands = hands }) (record { core = new; hands = hands })
+      → (hands : List HandContent) → HandsHaveJobs (record { core = old; hands = hands }) → (trigger : CheckpointTrigger)
+      → IsInternal keeps trigger (after trigger) (record { core = old; hands = hands }) (record { core = new; hands = hands })
 
-  call_is_quiet : (step : Step) (outcome : Outcome) (device_failed : Bool) → dispatches_or_returns step ≡ false → arrives step outcome ≡ [] → answers outcome ≡ []
-      → (keeps → RecoversThroughout (to_append (core_state_of old) step) old new) → IsStepOf step outcome device_failed
-  call_is_quiet step outcome device_failed still come told moments called counts untouched hands h = core_is_quiet step outcome
+  call_is_quiet : (step : Step) (outcome : Outcome) (device_failed : Bool) (after : CheckpointTrigger → CheckpointTrigger)
+      → dispatches_or_returns step ≡ false → arrives step outcome ≡ [] → IsQuiet outcome after
+      → (keeps → RecoversThroughout (to_append (core_state_of old) step) old new) → IsStepOf step outcome device_failed after
+  call_is_quiet step outcome device_failed after still come quiet moments called counts untouched hands h = core_is_quiet step outcome
       (record { device_failed = device_failed; called = called; geometry = geometry; failures = counts; untouched = untouched; any_moment = moments })
-      still come told h
+      still come quiet h
 
   pub log_is_quiet : (n : ℕ) (r : Result ℕ CoreFault) → (keeps → RecoversThroughout (batch (core_state_of old) n) old new)
-      → IsStepOf (steps.Log n) (log_outcome r) (log_device_failed r)
-  log_is_quiet n r moments = call_is_quiet (steps.Log n) (log_outcome r) (log_device_failed r) refl refl (no_answer_of_log r) moments
+      → IsStepOf (steps.Log n) (log_outcome r) (log_device_failed r) (λ trigger. trigger)
+  log_is_quiet n r moments = call_is_quiet (steps.Log n) (log_outcome r) (log_device_failed r) _ refl refl (quiet_log r) moments
 
   module _ (moments : keeps → RecoversThroughout [] old new) where
-    pub point_is_quiet : (r : Result (Unit {0}) PointRefusal) → IsStepOf steps.Point (step_outcome (λ _. outcomes.Pointed) r) (checkpoint_device_failed r)
-    point_is_quiet r = call_is_quiet steps.Point _ (checkpoint_device_failed r) refl refl (no_answer_of_point (λ _. outcomes.Pointed) (λ _. refl) r) moments
+    pub point_is_quiet : (r : Result (Unit {0}) PointRefusal) → IsStepOf steps.Point (step_outcome (λ _. outcomes.Pointed) r) (checkpoint_device_failed r) (λ trigger. trigger)
+    point_is_quiet r = call_is_quiet steps.Point _ (checkpoint_device_failed r) _ refl refl
+        (quiet_step (λ _. outcomes.Pointed) (λ _. (refl, refl, λ trigger. refl)) r) moments
 
-    pub cut_is_quiet : (r : Result (Unit {0}) PointRefusal) → IsStepOf steps.Cut (step_outcome (λ _. outcomes.Cut) r) (checkpoint_device_failed r)
-    cut_is_quiet r = call_is_quiet steps.Cut _ (checkpoint_device_failed r) refl refl (no_answer_of_point (λ _. outcomes.Cut) (λ _. refl) r) moments
+    pub cut_is_quiet : (r : Result (Unit {0}) PointRefusal) → IsStepOf steps.Cut (step_outcome (λ _. outcomes.Cut) r) (checkpoint_device_failed r) (after_cut r)
+    cut_is_quiet r = call_is_quiet steps.Cut _ (checkpoint_device_failed r) _ refl refl (quiet_cut r) moments
 
-    pub piece_is_quiet : (r : Result ℕ PointRefusal) → IsStepOf steps.Piece (step_outcome outcomes.Left r) (checkpoint_device_failed r)
-    piece_is_quiet r = call_is_quiet steps.Piece _ (checkpoint_device_failed r) refl refl (no_answer_of_point outcomes.Left (λ _. refl) r) moments
+    pub piece_is_quiet : (r : Result ℕ PointRefusal) → IsStepOf steps.Piece (step_outcome outcomes.Left r) (checkpoint_device_failed r) (λ trigger. trigger)
+    piece_is_quiet r = call_is_quiet steps.Piece _ (checkpoint_device_failed r) _ refl refl
+        (quiet_step outcomes.Left (λ _. (refl, refl, λ trigger. refl)) r) moments
 
-    pub flip_is_quiet : (r : Result (Unit {0}) PointRefusal) → IsStepOf steps.Flip (step_outcome (λ _. outcomes.Flipped) r) (checkpoint_device_failed r)
-    flip_is_quiet r = call_is_quiet steps.Flip _ (checkpoint_device_failed r) refl refl (no_answer_of_point (λ _. outcomes.Flipped) (λ _. refl) r) moments
+    pub flip_is_quiet : (r : Result (Unit {0}) PointRefusal) → IsStepOf steps.Flip (step_outcome (λ _. outcomes.Flipped) r) (checkpoint_device_failed r) (λ trigger. trigger)
+    flip_is_quiet r = call_is_quiet steps.Flip _ (checkpoint_device_failed r) _ refl refl
+        (quiet_step (λ _. outcomes.Flipped) (λ _. (refl, refl, λ trigger. refl)) r) moments

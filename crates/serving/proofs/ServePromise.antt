@@ -4,10 +4,12 @@ use Rattle.std.specs.Prelude.{IfSome, Ok, Err, Result}
 use Rattle.std.specs.Io.KnownBytes.{IsAtEnd}
 use Rattle.std.proofs.lemmas.Option.{none-some, same_Some}
 use Rattle.histories.specs.CoreState.{IsIdle}
-use Rattle.scheduler.specs.Machine.{MachineView}
+use Rattle.scheduler.specs.DeviceEvents.{events_of}
+use Rattle.scheduler.specs.Machine.{MachineView, machine_of}
 use Rattle.protocol.specs.Lines.{lines}
 use Rattle.meaning.specs.Progress.{TakesLines}
 use Rattle.scheduler.specs.CoreView.{CoreView, RecoversNow, core_state_of}
+use Rattle.serving.specs.Checkpoints.{WaitsForCheckpoints}
 use Rattle.serving.specs.Progress.{ServingProgress}
 use Rattle.serving.specs.Lines.{Line}
 use Rattle.reorder_buffer.specs.ReorderBuffer.{can_retire}
@@ -18,7 +20,7 @@ use Rattle.serving.specs.Serve.{AreUnsent, HasRunWith, failed_at}
 use Rattle.serving.specs.declared.server.ServeFault.{ServeFault}
 use Rattle.serving.specs.declared.server.ServeFault.TheVariants as faults
 use Rattle.serving.proofs.EndsWith.{has_served}
-use Rattle.serving.proofs.Start.{starts}
+use Rattle.serving.proofs.Start.{starts, stays}
 
 -- ---- the run
 
@@ -32,64 +34,89 @@ all_taken (Some input) (Some bs) ended consumed t at_end =
 
 -- where each line that was consumed is answered, and all was written that was to be
 all_answered : {keeps : Type 0} {start : MachineView} {new : CoreView} {input before written : Option (List ℕ)} {end : Result (Unit {0}) ServeFault}
-    → (served : HasServed keeps start new [] input before written) → IsMeant (failed_at end) start.core.slots 0 before written written
-    → AreUnsent end input served.consumed [] → HasRunWith keeps start new input before written end
-all_answered {written} served is none =
-    record { unsent = []; unanswered = 0; all = written; meant = is; served = served; few = omega arith; are_unsent = none }
+    {every : ℕ} → (served : HasServed keeps start new [] input before written) → IsMeant (failed_at end) start.core.slots 0 before written written
+    → AreUnsent end input served.consumed [] → WaitsForCheckpoints every (machine_of start) (events_of served.run.segment.device_events)
+    → HasRunWith keeps every start new input before written end
+all_answered {written} served is none in_time = record {
+  unsent = [];
+  unanswered = 0;
+  all = written;
+  meant = is;
+  served = served;
+  few = omega arith;
+  are_unsent = none;
+  in_time = in_time;
+}
+
+-- How far a server has come, in a run in which no message was dispatched while a checkpoint was due.
+pub record ProgressInTime (keeps : Type 0) (every : ℕ) (start now : MachineView) (unsent : List Line) (input unread : Option (List ℕ)) (drained : Bool)
+    (before written : Option (List ℕ)) : Type 0 where
+  pub progress : ServingProgress keeps start now unsent input unread drained before written
+  pub in_time : WaitsForCheckpoints every (machine_of start) (events_of progress.serving.segment.device_events)
 
 -- given what `know_recovery` ensures of the core at the end
-module _ {keeps : Type 0} {start now : MachineView} (idle : IsIdle (core_state_of start.core)) {input unread : Option (List ℕ)} {ended : Bool}
+module _ {keeps : Type 0} {every : ℕ} {start now : MachineView} (idle : IsIdle (core_state_of start.core)) {input unread : Option (List ℕ)} {ended : Bool}
     {before written : Option (List ℕ)} (no_doubt : now.core.failed ≡ false → now.core.doubt ≡ []) (recovers : keeps → RecoversNow now.core) where
-  pub runs_whole : ServingProgress keeps start now [] input unread ended before written → IsAtEnd unread
-      → HasRunWith keeps start now.core input before written (Ok tt)
+  pub runs_whole : ProgressInTime keeps every start now [] input unread ended before written → IsAtEnd unread
+      → HasRunWith keeps every start now.core input before written (Ok tt)
   unfolding has_served
-  runs_whole h at_end = all_answered (has_served keeps start now idle no_doubt recovers (omega arith) h) (refl, refl)
-      (refl, all_taken input unread ended h.consumed h.takes at_end)
+  runs_whole h at_end = all_answered (has_served keeps start now idle no_doubt recovers (omega arith) h.progress) (refl, refl)
+      (refl, all_taken input unread ended h.progress.consumed h.progress.takes at_end) h.in_time
 
-  pub runs_to_read : ServingProgress keeps start now [] input unread ended before written
-      → HasRunWith keeps start now.core input before written (Err faults.Read)
-  runs_to_read h = all_answered (has_served keeps start now idle no_doubt recovers (omega arith) h) (refl, refl) refl
+  pub runs_to_read : ProgressInTime keeps every start now [] input unread ended before written
+      → HasRunWith keeps every start now.core input before written (Err faults.Read)
+  unfolding has_served
+  runs_to_read h = all_answered (has_served keeps start now idle no_doubt recovers (omega arith) h.progress) (refl, refl) refl h.in_time
 
-  pub runs_to_last_ticket : ServingProgress keeps start now [] input unread ended before written
-      → HasRunWith keeps start now.core input before written (Err faults.Exhausted)
-  runs_to_last_ticket h = all_answered (has_served keeps start now idle no_doubt recovers (omega arith) h) (refl, refl) refl
+  pub runs_to_last_ticket : ProgressInTime keeps every start now [] input unread ended before written
+      → HasRunWith keeps every start now.core input before written (Err faults.Exhausted)
+  unfolding has_served
+  runs_to_last_ticket h = all_answered (has_served keeps start now idle no_doubt recovers (omega arith) h.progress) (refl, refl) refl h.in_time
 
-  pub runs_to_device : {unsent : List Line} → ServingProgress keeps start now unsent input unread ended before written → can_retire unsent ≡ false
-      → length unsent ≤ start.core.slots → HasRunWith keeps start now.core input before written (Err faults.Device)
+  pub runs_to_device : {unsent : List Line} → ProgressInTime keeps every start now unsent input unread ended before written → can_retire unsent ≡ false
+      → length unsent ≤ start.core.slots → HasRunWith keeps every start now.core input before written (Err faults.Device)
+  unfolding has_served
   runs_to_device {unsent} h last few = record {
     unsent = unsent;
     unanswered = start.core.slots;
     all = _;
     meant = (refl, refl);
-    served = has_served keeps start now idle no_doubt recovers few h;
+    served = has_served keeps start now idle no_doubt recovers few h.progress;
     few = few;
     are_unsent = last;
+    in_time = h.in_time;
   }
 
   -- where a write failed: what was written is a beginning of what was to be written
-  pub runs_to_write : {unsent : List Line} {torn : Option (List ℕ)} {left : ℕ} → ServingProgress keeps start now unsent input unread ended before written
-      → WritesBeginning start.core.slots left before torn written → length unsent ≤ left → HasRunWith keeps start now.core input before torn (Err faults.Write)
+  pub runs_to_write : {unsent : List Line} {torn : Option (List ℕ)} {left : ℕ} → ProgressInTime keeps every start now unsent input unread ended before written
+      → WritesBeginning start.core.slots left before torn written → length unsent ≤ left → HasRunWith keeps every start now.core input before torn (Err faults.Write)
+  unfolding has_served
   runs_to_write {unsent} {left} h is few = record {
     unsent = unsent;
     unanswered = left;
     all = written;
     meant = is;
-    served = has_served keeps start now idle no_doubt recovers (let within = is.3 in omega (arith, few, within)) h;
+    served = has_served keeps start now idle no_doubt recovers (let within = is.3 in omega (arith, few, within)) h.progress;
     few = few;
     are_unsent = tt;
+    in_time = h.in_time;
   }
 
 -- ---- a server that was refused
 
-module _ (keeps : Type 0) (core : CoreView) (places : ℕ) (idle : IsIdle (core_state_of core))
+module _ (keeps : Type 0) (core : CoreView) (places every : ℕ) (idle : IsIdle (core_state_of core))
     (no_doubt : core.failed ≡ false → core.doubt ≡ []) (recovers : keeps → RecoversNow core) (input before : Option (List ℕ)) where
-  not_run : HasServed keeps (machine_with_jobs core (replicate places None)) core [] input before before
+  unfoldable not_run : HasServed keeps (machine_with_jobs core (replicate places None)) core [] input before before
   not_run =
       let start = machine_with_jobs core (replicate places None) in
       has_served keeps start start idle no_doubt recovers (omega arith) (starts keeps start input before)
 
-  pub no_workers_ran : HasRunWith keeps (machine_with_jobs core (replicate places None)) core input before before (Err faults.NoWorkers)
-  no_workers_ran = all_answered not_run (refl, refl) refl
+  none_dispatched : WaitsForCheckpoints every (machine_of (machine_with_jobs core (replicate places None))) (events_of not_run.run.segment.device_events)
+  unfolding not_run has_served starts stays
+  none_dispatched = (_, refl)
 
-  pub no_memory_ran : HasRunWith keeps (machine_with_jobs core (replicate places None)) core input before before (Err faults.OutOfMemory)
-  no_memory_ran = all_answered not_run (refl, refl) refl
+  pub no_workers_ran : HasRunWith keeps every (machine_with_jobs core (replicate places None)) core input before before (Err faults.NoWorkers)
+  no_workers_ran = all_answered not_run (refl, refl) refl none_dispatched
+
+  pub no_memory_ran : HasRunWith keeps every (machine_with_jobs core (replicate places None)) core input before before (Err faults.OutOfMemory)
+  no_memory_ran = all_answered not_run (refl, refl) refl none_dispatched

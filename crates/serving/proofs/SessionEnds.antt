@@ -32,14 +32,16 @@ use Rattle.serving.specs.SessionInvariant.{SessionProgress, HasEndedReading, Ses
 use Rattle.serving.specs.Session.{SessionView, machine}
 use Rattle.serving.specs.Kill.{IsKillSafe}
 use Rattle.serving.specs.Start.{Start, start_machine, CanBegin}
+use Rattle.serving.specs.declared.checkpoints.CheckpointTrigger.{CheckpointTrigger}
 use Rattle.serving.specs.declared.session.ReadEnd.{ReadEnd}
 use Rattle.serving.specs.declared.session.ReadEnd.TheVariants as ends_of_reading
 use Rattle.serving.specs.declared.server.ServeFault.{ServeFault}
 use Rattle.serving.specs.declared.server.ServeFault.TheVariants as faults
 use Rattle.protocol.proofs.Newlines.{newlines}
 use Rattle.serving.proofs.Newlines.{in_answers}
-use Rattle.serving.proofs.ServePromise.{no_memory_ran, runs_to_device, runs_to_last_ticket, runs_to_read, runs_to_write, runs_whole}
+use Rattle.serving.proofs.ServePromise.{ProgressInTime, no_memory_ran, runs_to_device, runs_to_last_ticket, runs_to_read, runs_to_write, runs_whole}
 use Rattle.serving.proofs.KeepsSent.{safe_since}
+use Rattle.serving.proofs.SentLines.{sends_on}
 use Rattle.serving.proofs.ServingSince.{starts_since}
 use Rattle.serving.proofs.Start.{holds_at_start}
 use Rattle.serving.proofs.TornSend.{sent_begins, written_begins}
@@ -57,8 +59,9 @@ module _ (before whole sent : Option (List ℕ)) (waiting text : List ℕ) (grow
       begins_longer before sent first.0 all.0 (serial_output g start bytes) all.1 (begins_all text waiting first.0 before whole sent grown first.1 (sent_begins b waiting whole sent h))
 
 -- What a server promises at its end: of the run that led there (given what `know_recovery` ensures of the core), and of that end.
-pub record PromisesAll (keeps : Type 0) (start : MachineView) (new : CoreView) (x : Exchange) (result : Result (Unit {0}) ServeFault) : Type 0 where
-  pub run : (new.failed ≡ false → new.doubt ≡ []) → (keeps → RecoversNow new) → HasRunWith keeps start new x.input x.before x.written result
+pub record PromisesAll (keeps : Type 0) (every : ℕ) (start : MachineView) (new : CoreView) (x : Exchange) (result : Result (Unit {0}) ServeFault)
+    : Type 0 where
+  pub run : (new.failed ≡ false → new.doubt ≡ []) → (keeps → RecoversNow new) → HasRunWith keeps every start new x.input x.before x.written result
   pub ends : EndsWith start.core new x result
 
 module _ {keeps : Type 0} {s : Start} {p : SessionView} (u : SessionInvariant keeps s p) where
@@ -68,37 +71,44 @@ module _ {keeps : Type 0} {s : Start} {p : SessionView} (u : SessionInvariant ke
   abbrev now : MachineView
   now = machine p
 
-  -- how far the server has come, with all that was sent as its output, where the output works and no answer waits
+  -- how far the server has come, with the answers that wait taken as written
+  all_written : {unread : Option (List ℕ)} {drained : Bool} (h : SessionProgress keeps s p unread drained)
+      → ProgressInTime keeps s.every start now p.reorder_buffer.lines s.input unread drained s.before (all_output h.whole p.reply_buffer)
+  unfolding to_reorder_buffer sends_on
+  all_written h = record { progress = to_reorder_buffer h; in_time = (p.trigger, h.in_time) }
+
+  -- the same, with all that was sent as its output, where the output works and no answer waits
   written : {unsent : List Line} {unread : Option (List ℕ)} {drained : Bool} → SessionProgress keeps s p unread drained → p.reorder_buffer.lines ≡ unsent → p.output_failed ≡ false
-      → p.reply_buffer ≡ [] → ServingProgress keeps start now unsent s.input unread drained s.before p.sent
+      → p.reply_buffer ≡ [] → ProgressInTime keeps s.every start now unsent s.input unread drained s.before p.sent
   written h is output_works flushed =
-      rw (is, flushed, none_waits h.whole, ← all_sent p.output_failed p.reply_buffer h.whole p.sent output_works h.output) at (to_reorder_buffer h)
+      rw (is, flushed, none_waits h.whole, ← all_sent p.output_failed p.reply_buffer h.whole p.sent output_works h.output) at (all_written h)
 
   module _ (k : IsServed p) where
-    all_lines_answered : {unread : Option (List ℕ)} {drained : Bool} → SessionProgress keeps s p unread drained → ServingProgress keeps start now [] s.input unread drained s.before p.sent
+    all_lines_answered : {unread : Option (List ℕ)} {drained : Bool} → SessionProgress keeps s p unread drained
+        → ProgressInTime keeps s.every start now [] s.input unread drained s.before p.sent
     all_lines_answered h = written h k.all_retired k.output_works k.flushed
 
-    at_end : HasEndedReading keeps s p ends_of_reading.EndOfInput → PromisesAll keeps start p.core (exchange s.input p.remaining s.before p.sent) (Ok tt)
+    at_end : HasEndedReading keeps s p ends_of_reading.EndOfInput → PromisesAll keeps s.every start p.core (exchange s.input p.remaining s.before p.sent) (Ok tt)
     at_end h =
         let g = all_lines_answered h.progress_at_end in
-        let e = ends_whole keeps start now u.idle g k.works h.why.0 in
+        let e = ends_whole keeps start now u.idle g.progress k.works h.why.0 in
         record { run = λ no_doubt recovers. runs_whole u.idle no_doubt recovers g h.why.0; ends = (e.0, e.1, h.why.1, e.3) }
 
-    at_fault : HasEndedReading keeps s p ends_of_reading.ReadFailed → PromisesAll keeps start p.core (exchange s.input p.remaining s.before p.sent) (Err faults.Read)
+    at_fault : HasEndedReading keeps s p ends_of_reading.ReadFailed → PromisesAll keeps s.every start p.core (exchange s.input p.remaining s.before p.sent) (Err faults.Read)
     at_fault h =
         let g = all_lines_answered h.progress_at_end in
         record {
           run = λ no_doubt recovers. runs_to_read u.idle no_doubt recovers g;
           ends = ends_at_read keeps start now u.idle p.remaining
-              (subst (λ (b : Bool). ServingProgress keeps start now [] s.input h.unread b s.before p.sent) h.why.0 g) k.works h.why.1;
+              (subst (λ (b : Bool). ServingProgress keeps start now [] s.input h.unread b s.before p.sent) h.why.0 g.progress) k.works h.why.1;
         }
 
-    exhausted : HasEndedReading keeps s p ends_of_reading.TicketsExhausted → PromisesAll keeps start p.core (exchange s.input p.remaining s.before p.sent) (Err faults.Exhausted)
+    exhausted : HasEndedReading keeps s p ends_of_reading.TicketsExhausted → PromisesAll keeps s.every start p.core (exchange s.input p.remaining s.before p.sent) (Err faults.Exhausted)
     exhausted h =
         let g = all_lines_answered h.progress_at_end in
         record {
           run = λ no_doubt recovers. runs_to_last_ticket u.idle no_doubt recovers g;
-          ends = ends_exhausted keeps start now u.idle p.remaining g k.works h.why;
+          ends = ends_exhausted keeps start now u.idle p.remaining g.progress k.works h.why;
         }
 
   -- ---- where something has failed
@@ -110,23 +120,23 @@ module _ {keeps : Type 0} {s : Start} {p : SessionView} (u : SessionInvariant ke
         record { none_in_flight = none_out u.idle h.serving.segment none_lent; none_logged = answered }
 
     device_ends : p.core.failed ≡ true → p.output_failed ≡ false → p.reply_buffer ≡ [] → can_retire p.reorder_buffer.lines ≡ false
-        → PromisesAll keeps start p.core (exchange s.input p.remaining s.before p.sent) (Err faults.Device)
+        → PromisesAll keeps s.every start p.core (exchange s.input p.remaining s.before p.sent) (Err faults.Device)
     device_ends failed output_works flushed last =
         let h = (progress_at_end keeps s p p.read_end u.reads).2 in
         let g = written h refl output_works flushed in
         record {
           run = λ no_doubt recovers. runs_to_device u.idle no_doubt recovers g last (omega (arith, h.counted, h.bounded, u.fits));
-          ends = ends_at_device keeps start now u.idle g failed (wound_up g);
+          ends = ends_at_device keeps start now u.idle g.progress failed (wound_up g.progress);
         }
 
-    write_ends : (p.core.failed ≡ false → p.core.ran ≡ []) → PromisesAll keeps start p.core (exchange s.input p.remaining s.before p.sent) (Err faults.Write)
+    write_ends : (p.core.failed ≡ false → p.core.ran ≡ []) → PromisesAll keeps s.every start p.core (exchange s.input p.remaining s.before p.sent) (Err faults.Write)
     write_ends ran =
         let h = (progress_at_end keeps s p p.read_end u.reads).2 in
         let text = joined (map answer_text h.progress.sent_lines) in
         let begins = written_begins s.before h.whole p.sent p.reply_buffer text (length h.waiting) s.core.slots h.progress.output p.output_failed h.output
         (omega (arith, ap (λ (l : List ℕ). newlines l) h.reply_buffer_is, in_answers h.waiting)) (omega (arith, h.counted, h.bounded, u.fits)) in
         record {
-          run = λ no_doubt recovers. runs_to_write u.idle no_doubt recovers (to_reorder_buffer h) begins.1 (omega (arith, h.counted, h.bounded, u.fits, begins.2));
+          run = λ no_doubt recovers. runs_to_write u.idle no_doubt recovers (all_written h) begins.1 (omega (arith, h.counted, h.bounded, u.fits, begins.2));
           ends = (
             wound_up h.progress,
             ran,
@@ -140,7 +150,7 @@ module _ {keeps : Type 0} {s : Start} {p : SessionView} (u : SessionInvariant ke
 
   -- A session that has ended with this result promises what a server does.
   pub promises_by : (result : Result (Unit {0}) ServeFault) → EndsBy p result
-      → PromisesAll keeps start p.core (exchange s.input p.remaining s.before p.sent) result
+      → PromisesAll keeps s.every start p.core (exchange s.input p.remaining s.before p.sent) result
   promises_by (Ok tt) e = at_end e.0 (stopped e.1)
   promises_by (Err faults.Read) e = at_fault e.0 (stopped e.1)
   promises_by (Err faults.Exhausted) e = exhausted e.0 (stopped e.1)
@@ -156,21 +166,21 @@ pub record IsAtStart (s : Start) (p : SessionView) : Type 0 where
 
 -- A session that is as at its start promises what a server does that had no memory.
 declined : {keeps : Type 0} {s : Start} {p : SessionView} → IsIdle (core_state_of s.core) → IsAtStart s p
-    → PromisesAll keeps (start_machine s) p.core (exchange s.input p.remaining s.before p.sent) (Err faults.OutOfMemory)
+    → PromisesAll keeps s.every (start_machine s) p.core (exchange s.input p.remaining s.before p.sent) (Err faults.OutOfMemory)
 declined {keeps} {s} {p} idle at =
     rw (at.core, at.input, at.before)
-    (record { run = λ no_doubt recovers. no_memory_ran keeps s.core s.places idle no_doubt recovers s.input s.before; ends = (refl, refl, refl) })
+    (record { run = λ no_doubt recovers. no_memory_ran keeps s.core s.places s.every idle no_doubt recovers s.input s.before; ends = (refl, refl, refl) })
 
 -- A session promises what a server does if it has ended, or is as at its start.
 promises_or_declines : {keeps : Type 0} {s : Start} {old p : SessionView} → SessionInvariant keeps s p → IsAtStart s old → (result : Result (Unit {0}) ServeFault)
-    → EndsOrDeclines old p result → PromisesAll keeps (start_machine s) p.core (exchange s.input p.remaining s.before p.sent) result
+    → EndsOrDeclines old p result → PromisesAll keeps s.every (start_machine s) p.core (exchange s.input p.remaining s.before p.sent) result
 promises_or_declines {s} u at (Err faults.OutOfMemory) e = declined u.idle (subst (IsAtStart s) (sym e) at)
 promises_or_declines u at result e = promises_by u result e
 
 -- The same, with what is known of the session's end given for `now`, which equals it.
 pub promises_from : {keeps : Type 0} {s : Start} {old p now : SessionView} → SessionInvariant keeps s p → p ≡ now → IsAtStart s old
     → (result : Result (Unit {0}) ServeFault) → EndsOrDeclines old now result
-    → PromisesAll keeps (start_machine s) p.core (exchange s.input p.remaining s.before p.sent) result
+    → PromisesAll keeps s.every (start_machine s) p.core (exchange s.input p.remaining s.before p.sent) result
 promises_from {old} u is at result e = promises_or_declines u at result (subst (λ (p : SessionView). EndsOrDeclines old p result) (sym is) e)
 
 -- Where each line that was read is answered and nothing has failed, the session ends with what is reported for its `read_end`.
@@ -224,8 +234,8 @@ refuses_none workers some old p result e = some
 
 -- `ServePromise` stays true for an equal number of workers and an equal rest of the input.
 pub serves_as : {keeps : Type 0} {core : CoreView} {back : CoreView × Result (Unit {0}) ServeFault} {input before written remaining rest : Option (List ℕ)}
-    {places workers : ℕ} → places ≡ workers → remaining ≡ rest → ServePromise keeps places core back (exchange input remaining before written)
-    → ServePromise keeps workers core back (exchange input rest before written)
+    {places workers every : ℕ} → places ≡ workers → remaining ≡ rest → ServePromise keeps places every core back (exchange input remaining before written)
+    → ServePromise keeps workers every core back (exchange input rest before written)
 serves_as as_many same h = rw (as_many, same) at h
 
 -- ---- where it begins
@@ -246,6 +256,10 @@ pub record IsUnused (places : ℕ) (input : Option (List ℕ)) (p : SessionView)
   pub none_lent : p.dispatch_seat.lent ≡ replicate places None
   pub some_place : 0 < places
 
+-- Where none of the records is counted yet, the trigger is that of a start.
+same_trigger : (t : CheckpointTrigger) → t.answered_since ≡ 0 → t ≡ record { every = t.every; answered_since = 0 }
+same_trigger t none i = record { every = t.every; answered_since = none i }
+
 -- A call that may begin satisfies the invariant.
 pub first_at : (keeps : Type 0) {o : Option Start} {p : SessionView} {places : ℕ} {input : Option (List ℕ)} → CanBegin o p.core places p.trigger input p.sent p.sent_at p.reorder_buffer
     → IsUnused places input p → SessionInvariantFrom keeps o p
@@ -253,7 +267,6 @@ first_at keeps {o} {p} {places} {input} r unused =
     let s : Start = record { core = p.core; places = places; every = p.trigger.every; input = input; before = p.sent } in
     begins_at keeps o s p r.start_is (record {
       start = record { idle = r.idle; none_in_doubt = r.none_in_doubt };
-      every = refl;
       fits = r.fits;
       some_slot = r.some_slot;
       holds = holds_first p.core p.dispatch_seat.lent places unused.none_lent r.idle;
@@ -270,7 +283,7 @@ first_at keeps {o} {p} {places} {input} r unused =
         };
         whole = p.sent;
         output = sent_so p.output_failed p.reply_buffer p.sent unused.output_works;
-        since = rw (unused.none_lent, r.none, unused.none_read, unused.all, r.at_start) (starts_since keeps s);
+        since = rw (unused.none_lent, r.none, unused.none_read, unused.all, r.at_start, same_trigger p.trigger r.none_counted) (starts_since keeps s);
       });
     })
 

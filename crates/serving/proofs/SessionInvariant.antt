@@ -30,6 +30,7 @@ use Rattle.serving.specs.Lines.{HaveAnswers, Line, Pending, complete_one, has_an
 use Rattle.serving.specs.DispatchesTo.{NoneInFlight}
 use Rattle.serving.specs.TakesLine.{IsTaken}
 use Rattle.reorder_buffer.specs.ReorderBuffer.{AreConsecutive, ReorderBufferView, can_retire, retired_text, with_tickets}
+use Rattle.serving.specs.Checkpoints.{trigger_after}
 use Rattle.serving.specs.Runs.{HandsHaveJobs, IsInternal, RunsBetween, lent_hand, machine_with_jobs}
 use Rattle.serving.specs.declared.checkpoints.CheckpointTrigger.{CheckpointTrigger}
 use Rattle.serving.specs.SessionInvariant.{Waits, SessionProgress, HasEndedReading, SessionInvariant, SessionInvariantFrom, ServingSince, ReadsOrHasEnded, IsSent}
@@ -50,6 +51,7 @@ use Rattle.serving.proofs.EndsWith.{has_served}
 use Rattle.serving.proofs.Slots.{finds_a_slot}
 use Rattle.serving.proofs.KeepsSent.{safe_since}
 use Rattle.serving.proofs.Newlines.{in_answers}
+use Rattle.serving.proofs.AnsweredLine.{IsAnswered}
 use Rattle.serving.proofs.Segments.{still_failed}
 use Rattle.serving.proofs.ServingSince.{answered_since, breaks_since, line_since, long_line_since, quiet_since, sends_since}
 use Rattle.serving.proofs.TornSend.{all_appended, written_begins}
@@ -108,7 +110,7 @@ fronts [] rest is next = absurd (true≢false (sym next))
 fronts (line ∷ lines) rest is next = record { line = line; were = ap (λ (l : List Line). line ∷ l) (sym is); answered = next; retires = refl }
 
 -- With the answers that wait taken as written, the lines that are not sent are those of the reorder buffer.
-pub to_reorder_buffer : {keeps : Type 0} {s : Start} {p : SessionView} {unread : Option (List ℕ)} {drained : Bool} (h : SessionProgress keeps s p unread drained)
+unfoldable pub to_reorder_buffer : {keeps : Type 0} {s : Start} {p : SessionView} {unread : Option (List ℕ)} {drained : Bool} (h : SessionProgress keeps s p unread drained)
     → ServingProgress keeps (start_machine s) (machine p) p.reorder_buffer.lines s.input unread drained s.before
     (all_output h.whole p.reply_buffer)
 to_reorder_buffer {p} h = sends_on (sends_waiting h.waiting p.reorder_buffer.lines p.reply_buffer h.whole h.have_answers h.reply_buffer_is) h.progress
@@ -202,45 +204,36 @@ module _ (keeps : Type 0) where
         from (Some s) u = progress s u
 
     -- The machine has moved, but no message has arrived or was answered.
-    pub on_machine : (core : CoreView) (dispatch_seat : DispatchSeatView) → IsInternal keeps (machine p) (machine_with_jobs core dispatch_seat.lent)
+    pub on_machine : (core : CoreView) (dispatch_seat : DispatchSeatView) {trigger : CheckpointTrigger}
+        → IsInternal keeps p.trigger trigger (machine p) (machine_with_jobs core dispatch_seat.lent)
         → dispatch_seat.bench ≡ p.dispatch_seat.bench → length dispatch_seat.lent ≡ length p.dispatch_seat.lent
-        → SessionInvariantFrom keeps o (record p { core = core; dispatch_seat = dispatch_seat })
-    on_machine core dispatch_seat k bench places =
-        let q : SessionView = record p { core = core; dispatch_seat = dispatch_seat } in
+        → SessionInvariantFrom keeps o (record p { core = core; dispatch_seat = dispatch_seat; trigger = trigger })
+    on_machine core dispatch_seat {trigger} k bench places =
+        let q : SessionView = record p { core = core; dispatch_seat = dispatch_seat; trigger = trigger } in
         goes_to q (λ s u. assumption (
           k.holds,
           places ∙ u.places ∙ ap (λ (z : _). z.slots) (sym bench),
           subst (λ (z : TableId). 0 < z.slots) (sym bench) u.some_place,
-          reads_on s p q (passes_next k.segment) (still_failed k.segment) (λ unread drained h. search (quiet_since h.since k.segment, h)) p.read_end u.reads,
+          reads_on s p q (passes_next k.segment) (still_failed k.segment) (λ unread drained h. search (quiet_since h.since k, h)) p.read_end u.reads,
           u,
         ))
 
-    -- What is counted towards the next checkpoint is free, but not the number of records after which it is due.
-    pub on_trigger : (trigger : CheckpointTrigger) → trigger.every ≡ p.trigger.every → SessionInvariantFrom keeps o (record p { trigger = trigger })
-    on_trigger trigger every =
-        let q : SessionView = record p { trigger = trigger } in
-        goes_to q (λ s u. assumption (
-          every ∙ u.every,
-          reads_on s p q refl (λ x. x) (λ unread drained h. record { waits = h.waits; whole = h.whole; output = h.output; since = h.since }) p.read_end u.reads,
-          u,
-        ))
-
-    -- A message is answered, and its line in the reorder buffer is completed.
-    pub on_answer : (core : CoreView) (reorder_buffer : ReorderBufferView) (ticket : ℕ) (reply : Reply)
-        → HandsHaveJobs (machine_with_jobs core p.dispatch_seat.lent) × RunsBetween keeps (machine p) (machine_with_jobs core p.dispatch_seat.lent) [] ((ticket, reply) ∷ [])
+    -- A message is answered, its line in the reorder buffer is completed, and it is counted if it is a change that was carried out.
+    pub on_answer : (core : CoreView) (reorder_buffer : ReorderBufferView) {trigger : CheckpointTrigger} (ticket : ℕ) (reply : Reply)
+        → IsAnswered keeps (machine p) (machine_with_jobs core p.dispatch_seat.lent) (Some (ticket, reply)) → trigger ≡ trigger_after p.trigger reply
         → reorder_buffer.lines ≡ map (complete_one ticket reply) p.reorder_buffer.lines → reorder_buffer.slots ≡ p.reorder_buffer.slots
-        → SessionInvariantFrom keeps o (record p { core = core; reorder_buffer = reorder_buffer })
-    on_answer core reorder_buffer ticket reply k is slots =
-        let q : SessionView = record p { core = core; reorder_buffer = reorder_buffer } in
+        → SessionInvariantFrom keeps o (record p { core = core; reorder_buffer = reorder_buffer; trigger = trigger })
+    on_answer core reorder_buffer {trigger} ticket reply k count is slots =
+        let q : SessionView = record p { core = core; reorder_buffer = reorder_buffer; trigger = trigger } in
         goes_to q (λ s u. assumption (
           slots ∙ u.fits,
           k.0,
-          reads_on s p q (passes_next k.1) (still_failed k.1) (λ unread drained h. record {
+          reads_on s p q (passes_next k.1) (still_failed k.1) (λ unread drained h. rw count (record {
             waits = waits_on h.waits (omega (arith, ap length is, length-map p.reorder_buffer.lines (complete_one ticket reply))) (omega (arith, h.bounded, slots));
             whole = h.whole;
             output = h.output;
-            since = rw (are_left ticket reply h.waiting p.reorder_buffer.lines h.have_answers, ← is) at (answered_since h.since k.1);
-          }) p.read_end u.reads,
+            since = rw (are_left ticket reply h.waiting p.reorder_buffer.lines h.have_answers, ← is) at (answered_since h.since k.1 (k.2 p.trigger));
+          })) p.read_end u.reads,
           u,
         ))
 
@@ -378,8 +371,9 @@ module _ (keeps : Type 0) where
     module _ (known : Line) (pushed : reorder_buffer.lines ≡ p.reorder_buffer.lines ++ known ∷ []) (going : p.drained ≡ false) (closes : HasWholeFirstLine p.unread drained) where
       on_read : (o : Option Start) → SessionInvariantFrom keeps o p → HandsHaveJobs (machine next)
           → ((s : Start) (unsent : List Line) (whole : Option (List ℕ)) → IsIdle (core_state_of s.core)
-          → ServingSince keeps s (machine p) unsent p.unread p.drained whole p.sent_at p.sent
-          → ServingSince keeps s (machine next) (unsent ++ known ∷ []) unread drained whole p.sent_at p.sent) → SessionInvariantFrom keeps o next
+          → ServingSince keeps s p.trigger (machine p) unsent p.unread p.drained whole p.sent_at p.sent
+          → ServingSince keeps s p.trigger (machine next) (unsent ++ known ∷ []) unread drained whole p.sent_at p.sent)
+          → SessionInvariantFrom keeps o next
       on_read o u holds read = goes_to o p u next (λ s u.
           let h = reading s p none u in
           reads_next s u holds (record {
@@ -400,7 +394,8 @@ module _ (keeps : Type 0) where
       on_long_line o u t found = on_read o u t.holds (λ s unsent whole idle h. long_line_since h idle going closes t found)
 
     -- No more is read for this reason.
-    pub on_read_end : (o : Option Start) (read_end : ReadEnd) → SessionInvariantFrom keeps o p → IsInternal keeps (machine p) (machine next) → reorder_buffer.lines ≡ p.reorder_buffer.lines
+    pub on_read_end : (o : Option Start) (read_end : ReadEnd) → SessionInvariantFrom keeps o p → IsInternal keeps p.trigger p.trigger (machine p) (machine next)
+        → reorder_buffer.lines ≡ p.reorder_buffer.lines
         → IsReadEnd p.core.geometry core p.unread p.drained remaining read_end → SessionInvariantFrom keeps o (record next { read_end = Some read_end })
     on_read_end o read_end u k same why = goes_to o p u (record next { read_end = Some read_end }) (λ s u.
         let h = reading s p none u in
@@ -411,7 +406,7 @@ module _ (keeps : Type 0) where
             waits = waits_on h.waits more bounded_next;
             whole = h.whole;
             output = h.output;
-            since = simp (← same) at (quiet_since h.since k.segment);
+            since = simp (← same) at (quiet_since h.since k);
           };
           why = subst (λ (y : Geometry). IsReadEnd y core p.unread p.drained remaining read_end) h.progress.serving.segment.leads.geometry why;
         } in

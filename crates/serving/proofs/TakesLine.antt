@@ -1,5 +1,6 @@
 -- A line that is read, and its message, which arrives if it takes a ticket.
 use Rattle.std.proofs.Common.{◌≡◌, ◌≢◌, ℕ, true, false, List, [], ◌∷◌, ◌++◌, Option, refl, ap, sym, ◌∙◌, subst, append_assoc, append-nil, arith, Some, None}
+use Rattle.std.proofs.lemmas.Bool.{true≢false}
 use Rattle.std.specs.Prelude.{Result, Ok, Err}
 use Rattle.affinity.specs.declared.geometry.Geometry.{Geometry}
 use Rattle.histories.proofs.Elements.{in_contained}
@@ -26,7 +27,7 @@ use Rattle.serving.specs.TakesLine.{IsRefusedLine, IsTaken}
 use Rattle.serving.specs.Runs.{HandsHaveJobs, RunsBetween}
 use Rattle.serving.proofs.RunsBetween.{passes_on, told_as}
 use Rattle.serving.proofs.EndsWith.{ticket_before}
-use Rattle.serving.proofs.Segments.{core_is_quiet, step_passes}
+use Rattle.serving.proofs.Segments.{core_is_quiet, step_in_time, step_passes}
 use Rattle.serving.proofs.IsReadEnd.{Shows, shows}
 use Rattle.serving.proofs.Tickets.{next-append, passes_next, ticketed-append, admitted-append, messages-ticketed}
 
@@ -87,7 +88,7 @@ serves_taken {keeps} {start} {old} {new} {known} line idle t s =
     let before = ticket_before keeps start old idle s (old.core.next, reply) (in_contained s.reply_pairs (old.core.next, reply) there) in
     absurd (omega (arith, before, is)) in
     takes_in s new line known
-    (subst (λ (y : Geometry). RunsBetween keeps old new (ticketed old.core.next (admitted_in y o)) []) s.segment.leads.geometry t.segment)
+    (told_as t.segment (ap (λ (y : Geometry). ticketed old.core.next (admitted_in y o)) s.segment.leads.geometry) refl)
     (known_anyway start.core.geometry s.reply_pairs old.core.next o known fresh
     (subst (λ (y : Geometry). IsKnown y [] old.core.next o known) s.segment.leads.geometry t.is_known))
 
@@ -102,22 +103,28 @@ module _ (keeps : Type 0) (old new : CoreView) (m : Msg) (hands : List HandConte
 
   with_ticket : (t : ℕ) → IsCoreStep keeps old new (steps.Arrive m) (outcomes.Ticket t) → is_in_range old.geometry m ≡ true → t ≡ old.next
       → IsTaken keeps was now (Some m) (Pending t)
-  with_ticket t step fits is_next = record {
+  with_ticket t step fits is_next = let did = core_step keeps old new hands (steps.Arrive m) (outcomes.Ticket t) h step in record {
     holds = core_holds keeps old new hands (steps.Arrive m) (outcomes.Ticket t) h step refl;
-    segment = rw fits (rw is_next at (step_passes (core_step keeps old new hands (steps.Arrive m) (outcomes.Ticket t) h step)));
+    segment = told_as (step_passes did) (rw fits (rw is_next refl)) refl;
+    in_time = λ trigger. step_in_time did trigger (λ is. absurd (true≢false (sym is)));
     is_known = (fits, is_next, λ reply there. absurd (in_contained [] (t, reply) there));
   }
 
   out_of_range : IsCoreStep keeps old new (steps.Arrive m) (outcomes.ArriveRefused arrivals.Range) → is_in_range old.geometry m ≡ false
       → IsTaken keeps was now (Some m) OutOfRange
   out_of_range step out =
-      let quiet = core_is_quiet (steps.Arrive m) (outcomes.ArriveRefused arrivals.Range) step refl refl refl h in
-      record { holds = quiet.holds; segment = rw out quiet.segment; is_known = out }
+      let did = core_step keeps old new hands (steps.Arrive m) (outcomes.ArriveRefused arrivals.Range) h step in
+      record {
+        holds = core_holds keeps old new hands (steps.Arrive m) (outcomes.ArriveRefused arrivals.Range) h step refl;
+        segment = told_as (step_passes did) (rw out refl) refl;
+        in_time = λ trigger. step_in_time did trigger (λ is. absurd (true≢false (sym is)));
+        is_known = out;
+      }
 
   refused : (why : ArriveRefusal) → why ≢ arrivals.Range → IsCoreStep keeps old new (steps.Arrive m) (outcomes.ArriveRefused why)
       → (outcomes.ArriveRefused why, core_state_of new) ≡ arrive old.geometry (core_state_of old) m → IsRefusedLine keeps was now m why
   refused why not_range step e = record {
-    quiet = core_is_quiet (steps.Arrive m) (outcomes.ArriveRefused why) step refl refl refl h;
+    quiet = core_is_quiet (steps.Arrive m) (outcomes.ArriveRefused why) step refl refl (refl, refl, λ trigger. refl) h;
     refused = sym (ap (λ (x : Outcome × CoreState). x.0) e);
     not_range = not_range;
   }

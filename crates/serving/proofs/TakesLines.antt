@@ -22,12 +22,14 @@ use Rattle.serving.specs.Progress.{ServingProgress}
 use Rattle.serving.specs.Lines.{Line, NoMessage, OutOfRange, Pending}
 use Rattle.serving.specs.TakesLine.{IsRefusedLine, IsTaken}
 use Rattle.serving.specs.Runs.{HandsHaveJobs, IsInternal}
+use Rattle.serving.specs.declared.checkpoints.CheckpointTrigger.{CheckpointTrigger}
 use Rattle.serving.proofs.TakesLine.{ArrivesSo, arrives_so, serves_taken, ticket_is_next}
 use Rattle.serving.proofs.Start.{stays}
 
 -- A line that is no message takes no ticket.
 pub takes_none : (keeps : Type 0) (m : MachineView) → HandsHaveJobs m → IsTaken keeps m m None NoMessage
-takes_none keeps m h = record { holds = h; segment = stays keeps m; is_known = tt }
+unfolding stays
+takes_none keeps m h = record { holds = h; segment = stays keeps m; in_time = λ trigger. refl; is_known = tt }
 
 -- ---- a line that has come to the core
 
@@ -67,8 +69,9 @@ next_of_line old new None ticket e = absurd (let other : ◌≡◌ {A = Result (
 next_of_line old new (Some m) ticket e = ticket_is_next old.geometry (core_state_of old) (core_state_of new) m ticket e
 
 -- Where nothing happens, nothing arrives or is answered.
-pub still : (keeps : Type 0) (m : MachineView) → HandsHaveJobs m → IsInternal keeps m m
-still keeps m h = record { holds = h; segment = stays keeps m }
+pub still : (keeps : Type 0) (trigger : CheckpointTrigger) (m : MachineView) → HandsHaveJobs m → IsInternal keeps trigger trigger m m
+unfolding stays
+still keeps trigger m h = record { holds = h; segment = stays keeps m; in_time = refl }
 
 -- ---- the next line
 

@@ -1,9 +1,11 @@
 -- Statement for operators: What a call of `serve` promises, by its result.
 use Rattle.std.specs.Prelude.{◌≡◌, ◌≢◌, ◌≤◌, ℕ, false, List, [], length, Option, None, IfSome, Result, Ok, Err, OnOk, replicate}
-use Rattle.scheduler.specs.Machine.{MachineView}
+use Rattle.scheduler.specs.DeviceEvents.{events_of}
+use Rattle.scheduler.specs.Machine.{MachineView, machine_of}
 use Rattle.protocol.specs.Lines.{lines}
 use Rattle.oplog.specs.Recovery.{records_in}
 use Rattle.scheduler.specs.CoreView.{CoreView}
+use Rattle.serving.specs.Checkpoints.{WaitsForCheckpoints}
 use Rattle.serving.specs.Ends.{EndsWith}
 use Rattle.serving.specs.Exchange.{Exchange}
 use Rattle.serving.specs.Lines.{Line}
@@ -29,8 +31,9 @@ AreUnsent (Err faults.Device) input consumed unsent = can_retire unsent ≡ fals
 AreUnsent (Err faults.Write) input consumed unsent = Unit {0}
 AreUnsent (Err _) input consumed unsent = unsent ≡ []
 
--- A run led to what was to be written (`IsMeant`), and to no more unanswered lines than that allows.
-pub record HasRunWith (keeps : Type 0) (start : MachineView) (new : CoreView) (input before written : Option (List ℕ))
+-- A run led to what was to be written (`IsMeant`), and to no more unanswered lines than that allows. Checkpoints were due after each
+-- `every` records.
+pub record HasRunWith (keeps : Type 0) (every : ℕ) (start : MachineView) (new : CoreView) (input before written : Option (List ℕ))
     (end : Result (Unit {0}) ServeFault) : Type 0 where
   pub unsent : List Line
   pub unanswered : ℕ
@@ -39,6 +42,8 @@ pub record HasRunWith (keeps : Type 0) (start : MachineView) (new : CoreView) (i
   pub served : HasServed keeps start new unsent input before all
   pub few : length unsent ≤ unanswered
   pub are_unsent : AreUnsent end input served.consumed unsent
+  -- no message was dispatched while a checkpoint was due
+  pub in_time : WaitsForCheckpoints every (machine_of start) (events_of served.run.segment.device_events)
 
 -- The call ends with `NoWorkers` exactly where there are no workers.
 abbrev pub FailsWithoutWorkers : ℕ → Result (Unit {0}) ServeFault → Type 0
@@ -51,10 +56,10 @@ handed_back (Ok core) = (core, Ok tt)
 handed_back (Err e) = (e.core, Err e.fault)
 
 -- What a call of `serve` promises, from the core that it was given to what it hands back.
-pub record ServePromise (keeps : Type 0) (workers : ℕ) (old : CoreView) (back : CoreView × Result (Unit {0}) ServeFault)
+pub record ServePromise (keeps : Type 0) (workers every : ℕ) (old : CoreView) (back : CoreView × Result (Unit {0}) ServeFault)
     (x : Exchange) : Type 0 where
   -- a run led to what was written, from the given core with an empty hand for each worker
-  pub run : HasRunWith keeps (machine_with_jobs old (replicate workers None)) back.0 x.input x.before x.written back.1
+  pub run : HasRunWith keeps every (machine_with_jobs old (replicate workers None)) back.0 x.input x.before x.written back.1
   -- core, input and output are as `EndsWith` says for this result
   pub ends : EndsWith old back.0 x back.1
   pub no_workers : FailsWithoutWorkers workers back.1

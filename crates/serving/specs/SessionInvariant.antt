@@ -7,12 +7,14 @@ use Rattle.scheduler.specs.DeviceEvents.{DeviceEvent, device_after, events_of}
 use Rattle.scheduler.specs.Machine.{MachineView, machine_of}
 use Rattle.meaning.specs.Output.{joined}
 use Rattle.message.specs.AppendsBeginning.{AppendsBeginning}
+use Rattle.serving.specs.Checkpoints.{DispatchInTime}
 use Rattle.serving.specs.Progress.{ServingProgress}
 use Rattle.serving.specs.Lines.{HaveAnswers, Line, answer_text}
 use Rattle.serving.specs.History.{AreInHistory}
 use Rattle.serving.specs.Restart.{WritesBeginning}
 use Rattle.serving.specs.Runs.{HandsHaveJobs}
-use Rattle.serving.specs.Start.{Start, start_machine, IsIdleStart}
+use Rattle.serving.specs.Start.{Start, start_machine, start_trigger, IsIdleStart}
+use Rattle.serving.specs.declared.checkpoints.CheckpointTrigger.{CheckpointTrigger}
 use Rattle.serving.specs.declared.session.ReadEnd.{ReadEnd}
 use Rattle.serving.specs.Session.{SessionView, machine, IsReadEnd}
 use Rattle.reorder_buffer.specs.ReorderBuffer.{ReorderBufferView}
@@ -49,11 +51,13 @@ pub record KeepsSent (s : Start) (sent_at : Medium) (sent : Option (List ℕ)) (
   pub begun : WritesBeginning s.core.slots unanswered s.before sent all
   pub few : length sent_lines + s.core.slots ≤ length answers + unanswered
 
--- How far the server has come (`ServingProgress`), in a run in which what was sent is kept.
-pub record ServingSince (keeps : Type 0) (s : Start) (now : MachineView) (unsent : List Line) (unread : Option (List ℕ)) (drained : Bool)
-    (whole : Option (List ℕ)) (sent_at : Medium) (sent : Option (List ℕ)) : Type 0 where
+-- How far the server has come (`ServingProgress`), in a run in which what was sent is kept, and no message was dispatched while a
+-- checkpoint was due. `trigger`: what was counted in it.
+pub record ServingSince (keeps : Type 0) (s : Start) (trigger : CheckpointTrigger) (now : MachineView) (unsent : List Line)
+    (unread : Option (List ℕ)) (drained : Bool) (whole : Option (List ℕ)) (sent_at : Medium) (sent : Option (List ℕ)) : Type 0 where
   pub progress : ServingProgress keeps (start_machine s) now unsent s.input unread drained s.before whole
   pub kept : KeepsSent s sent_at sent progress.consumed progress.sent_lines progress.serving.segment.device_events
+  pub in_time : DispatchInTime (start_trigger s) (machine_of (start_machine s)) (events_of progress.serving.segment.device_events) trigger
 
 -- From the start of the call of `serve` a legal run has led to this session, and `unread` is what is left of the input.
 pub record SessionProgress (keeps : Type 0) (s : Start) (p : SessionView) (unread : Option (List ℕ)) (drained : Bool) : Type 0 where
@@ -61,7 +65,7 @@ pub record SessionProgress (keeps : Type 0) (s : Start) (p : SessionView) (unrea
   pub open waits use *
   pub whole : Option (List ℕ)
   pub output : IsSent p.output_failed p.reply_buffer whole p.sent
-  pub since : ServingSince keeps s (machine p) (waits.waiting ++ p.reorder_buffer.lines) unread drained whole p.sent_at p.sent
+  pub since : ServingSince keeps s p.trigger (machine p) (waits.waiting ++ p.reorder_buffer.lines) unread drained whole p.sent_at p.sent
   pub open since use *
 
 -- A legal run has led to this session, and no more is read, for this reason.
@@ -79,8 +83,6 @@ ReadsOrHasEnded keeps s p read_end = MatchOption read_end (SessionProgress keeps
 pub record SessionInvariant (keeps : Type 0) (s : Start) (p : SessionView) : Type 0 where
   pub start : IsIdleStart s
   pub open start use *
-  -- checkpoints are due by the count that was asked for
-  pub every : p.trigger.every ≡ s.every
   -- the reorder buffer has room for as many lines as the core has slots, of which there is one
   pub fits : p.reorder_buffer.slots ≡ s.core.slots
   pub some_slot : 0 < s.core.slots

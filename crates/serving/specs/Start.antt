@@ -21,6 +21,10 @@ pub record Start : Type 0 where
 abbrev pub start_machine : Start → MachineView
 start_machine s = machine_with_jobs s.core (replicate s.places None)
 
+-- when checkpoints are due at the start: none of the records is counted yet
+abbrev pub start_trigger : Start → CheckpointTrigger
+start_trigger s = record { every = s.every; answered_since = 0 }
+
 -- No message was in the core or its `doubt` at the start.
 pub record IsIdleStart (s : Start) : Type 0 where
   pub idle : IsIdle (core_state_of s.core)
@@ -28,10 +32,11 @@ pub record IsIdleStart (s : Start) : Type 0 where
 
 -- A call of `serve` may begin at this start: no message is in the core or its `doubt`, the device has not failed, and the reorder buffer is
 -- empty and has room for as many lines as the core has slots, of which there is one. `sent_at`: the device is as the sink has it.
--- Checkpoints are due by the count that was asked for.
+-- Checkpoints are due by the count that was asked for, and none of the records is counted yet.
 pub record CanBegin (start : Option Start) (core : CoreView) (places : ℕ) (trigger : CheckpointTrigger) (input sent : Option (List ℕ))
     (sent_at : Medium) (reorder_buffer : ReorderBufferView) : Type 0 where
   pub start_is : start ≡ Some (record { core = core; places = places; every = trigger.every; input = input; before = sent })
+  pub none_counted : trigger.answered_since ≡ 0
   pub at_start : sent_at ≡ core.medium
   pub idle : IsIdle (core_state_of core)
   pub works : core.failed ≡ false

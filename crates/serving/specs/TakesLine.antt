@@ -4,11 +4,14 @@ use Rattle.histories.specs.Events.{arrive}
 use Rattle.histories.specs.declared.outcomes.ArriveRefusal.{ArriveRefusal}
 use Rattle.histories.specs.declared.outcomes.ArriveRefusal.TheVariants as arrivals
 use Rattle.histories.specs.declared.outcomes.Outcome.TheVariants.{ArriveRefused}
-use Rattle.scheduler.specs.Machine.{MachineView}
+use Rattle.scheduler.specs.DeviceEvents.{events_of}
+use Rattle.scheduler.specs.Machine.{MachineView, machine_of}
 use Rattle.protocol.specs.declared.messages.Msg.{Msg}
 use Rattle.scheduler.specs.CoreView.{core_state_of}
+use Rattle.serving.specs.Checkpoints.{DispatchInTime}
 use Rattle.serving.specs.Lines.{IsKnown, Line, admitted_in, ticketed}
 use Rattle.serving.specs.Runs.{HandsHaveJobs, IsInternal, RunsBetween}
+use Rattle.serving.specs.declared.checkpoints.CheckpointTrigger.{CheckpointTrigger}
 use Rattle.serving.specs.declared.session.ReadEnd.{ReadEnd}
 use Rattle.serving.specs.declared.session.ReadEnd.TheVariants as ends_of_reading
 
@@ -16,11 +19,12 @@ use Rattle.serving.specs.declared.session.ReadEnd.TheVariants as ends_of_reading
 pub record IsTaken (keeps : Type 0) (old new : MachineView) (m : Option Msg) (known : Line) : Type 0 where
   pub holds : HandsHaveJobs new
   pub segment : RunsBetween keeps old new (ticketed old.core.next (admitted_in old.core.geometry m)) []
+  pub in_time : (trigger : CheckpointTrigger) → DispatchInTime trigger (machine_of old) (events_of segment.device_events) trigger
   pub is_known : IsKnown old.core.geometry [] old.core.next m known
 
 -- The core refuses the message for this reason, which isn't that it is out of range: a line out of range is consumed.
 pub record IsRefusedLine (keeps : Type 0) (old new : MachineView) (m : Msg) (why : ArriveRefusal) : Type 0 where
-  pub quiet : IsInternal keeps old new
+  pub quiet : (trigger : CheckpointTrigger) → IsInternal keeps trigger trigger old new
   pub refused : (arrive old.core.geometry (core_state_of old.core) m).0 ≡ ArriveRefused why
   pub not_range : why ≢ arrivals.Range
 

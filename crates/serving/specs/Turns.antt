@@ -108,10 +108,11 @@ abbrev pub lines_sent : (m : LoopView) (later : List LoopView) → AreTurns m la
 lines_sent m [] turns = 0
 lines_sent m (later ∷ rest) turns = (turns.0.outstanding - later.session.outstanding) + lines_sent later rest turns.1
 
--- how many of the turns that end at these moments have waited for no worker
+-- how many of the turns that end at these moments can't have waited for a worker
 abbrev pub busy_turns : List LoopView → ℕ
 busy_turns moments = count_by (λ m. not (may_wait m.session)) moments
 
--- how many turns that wait for no worker a line may wait for its answer, where an image has n pieces and so many lines may be outstanding
+-- how many turns that can't have waited for a worker a line may wait for its answer, where an image has n pieces and so many lines may be
+-- outstanding
 abbrev pub turns_an_answer : ℕ → ℕ → ℕ
 turns_an_answer n lines = turns_a_step n * (17 * lines + 1)

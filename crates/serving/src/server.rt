@@ -143,7 +143,7 @@ fn run_session<
         memory.reorder_buffer }
     requires workers { places_of memory.bench ≢ 0 }
     ensures same { result.1.ghost_name ≡ reader.entry.ghost_name }
-    ensures serves { ServePromise D.keeps (places_of memory.bench) core (handed_back result.0)
+    ensures serves { ServePromise D.keeps (places_of memory.bench) trigger.every core (handed_back result.0)
         (exchange (R.remaining reader.entry.now) (R.remaining result.1.now) (L.sent sink) (L.sent result.2)) }
     ensures safe { IsKillSafe D.keeps L.start (L.sent result.2) (L.sent_at result.2) (handed_back result.0).0 }
 {
@@ -212,7 +212,7 @@ pub fn serve_to<T: Threads + Wait + Sync, R: Read, L: ReplySink<D>, D: Disk + Dr
     requires idle { IsIdle (core_state_of core) }
     requires works { core.failed ≡ false }
     requires few { workers ≤ MOST_WORKERS }
-    ensures serves { ServePromise D.keeps workers core (handed_back result.0)
+    ensures serves { ServePromise D.keeps workers every core (handed_back result.0)
         (exchange (R.remaining r.old) (R.remaining r.new) (L.sent sink) (L.sent result.1)) }
     // A kill at any moment since the last `send` began has lost nothing of what was sent, either.
     ensures safe { IsKillSafe D.keeps L.start (L.sent result.1) (L.sent_at result.1) (handed_back result.0).0 }

@@ -91,7 +91,7 @@ fn with_writer<
     requires works { core.failed ≡ false }
     requires few { workers ≤ MOST_WORKERS }
     ensures same { result.1.ghost_name ≡ w.entry.ghost_name }
-    ensures serves { ServePromise D.keeps workers core (handed_back result.0)
+    ensures serves { ServePromise D.keeps workers every core (handed_back result.0)
         (exchange (R.remaining r.old) (R.remaining r.new) (W.contents w.entry.now) (W.contents result.1.now)) }
 {
     let sink = WriterSink::<W, D, B> {
@@ -130,7 +130,7 @@ pub fn serve<T: Threads + Wait + Sync, R: Read, W: Write, D: Disk + Drop, G: Gat
     requires idle { IsIdle (core_state_of core) }
     requires works { core.failed ≡ false }
     requires few { workers ≤ MOST_WORKERS }
-    ensures { ServePromise D.keeps workers core (handed_back result)
+    ensures { ServePromise D.keeps workers every core (handed_back result)
         (exchange (R.remaining r.old) (R.remaining r.new) (W.contents w.old) (W.contents w.new)) }
 {
     let (ended, w) = with_writer::<T, R, W, D, G, Brand>(

@@ -48,7 +48,7 @@ returns g c =
     let end = reported c.with_workers-ended.result in
     let safe = IsKillSafe g.D.Disk.keeps g.L.ReplySink.start now.sent now.sent_at now.core in
     let ends = ends_or_declines now (g.D.Disk.keeps → records_in now.core.geometry now.core.medium.now ≡ []) safe _ c.with_workers-ended.result gives.gives _ gives.not_begun end refl in
-    let all = subst (λ (b : Option (List ℕ)). PromisesAll g.D.Disk.keeps (start_machine s) last.core (exchange s.input b s.before (g.L.ReplySink.sent last.sink)) end)
+    let all = subst (λ (b : Option (List ℕ)). PromisesAll g.D.Disk.keeps s.every (start_machine s) last.core (exchange s.input b s.before (g.L.ReplySink.sent last.sink)) end)
     (sym (ap (λ (l : _). g.R.Read.remaining l.reader.now) c.into_inner-reader.ensures))
     (promises_from (begun c.requires.can_begin.start_is c.session.invariant.run) c.session.view_is
     (record { core = refl; input = ap (λ (l : _). g.R.Read.remaining l.reader.now) c.new.ensures.source; before = refl }) end ends) in

@@ -10,7 +10,7 @@ returns-then-workers-eq0 g c =
     let leaves = c.know_recovery.ensures.now in
     record {
       serves = record {
-        run = no_workers_ran g.D.Disk.keeps c.args.core c.args.workers c.requires.idle none leaves (g.R.Read.remaining c.args.r.now) (g.L.ReplySink.sent c.args.sink);
+        run = no_workers_ran g.D.Disk.keeps c.args.core c.args.workers c.args.every c.requires.idle none leaves (g.R.Read.remaining c.args.r.now) (g.L.ReplySink.sent c.args.sink);
         ends = (refl, refl, refl);
         no_workers = c.if-workers-eq0.true;
         emptied = tt;
@@ -24,7 +24,7 @@ returns-in_default g c =
     let leaves = c.know_recovery.ensures.now in
     record {
       serves = record {
-        run = no_memory_ran g.D.Disk.keeps c.args.core c.args.workers c.requires.idle none leaves (g.R.Read.remaining c.args.r.now) (g.L.ReplySink.sent c.args.sink);
+        run = no_memory_ran g.D.Disk.keeps c.args.core c.args.workers c.args.every c.requires.idle none leaves (g.R.Read.remaining c.args.r.now) (g.L.ReplySink.sent c.args.sink);
         ends = (refl, refl, refl);
         no_workers = c.if-workers-eq0.false;
         emptied = tt;
@@ -34,6 +34,6 @@ returns-in_default g c =
 
 pub returns : goal.returns
 returns g c = record {
-  serves = serves_as c.in-Ok.ensures.places (search rules) c.run_session-ended.ensures.serves;
+  serves = serves_as c.in-Ok.ensures.places (search rules) (rw c.new.ensures.0 at c.run_session-ended.ensures.serves);
   safe = c.run_session-ended.ensures.safe;
 }

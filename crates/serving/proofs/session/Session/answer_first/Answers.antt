@@ -1,17 +1,9 @@
 -- The message is answered, and its line completed; and the session keeps its invariant.
-use Rattle.std.proofs.Common.{◌≡◌, ◌∙◌, ap, refl}
-use Rattle.protocol.specs.declared.replies.Reply.{Reply}
-use Rattle.protocol.specs.declared.replies.Reply.TheVariants as replies
+use Rattle.std.proofs.Common.{refl}
 use Rattle.scheduler.proofs.MachineSteps.{answer_step}
 use Rattle.serving.proofs.AnsweredLine.{is_answered_so, none_answered}
-use Rattle.serving.proofs.SessionInvariant.{holds_of, on_answer, on_machine, on_trigger}
-use Rattle.serving.specs.Checkpoints.{trigger_after}
-use Rattle.serving.specs.declared.checkpoints.CheckpointTrigger.{CheckpointTrigger}
+use Rattle.serving.proofs.SessionInvariant.{holds_of, on_answer, on_machine}
 use Rattle.serving.proofs.session.Session.answer_first.Goals as goal
-
-same_every : (t : CheckpointTrigger) (reply : Reply) → (trigger_after t reply).every ≡ t.every
-same_every t replies.Done = refl
-same_every t reply = refl
 
 pub invariant_of-self : goal.invariant_of-self
 invariant_of-self g c =
@@ -21,7 +13,7 @@ invariant_of-self g c =
     (answer_step g.D.Disk.keeps old new c.know_recovery.ensures.no_doubt c.know_recovery.ensures.now c.answer-first.ensures.geometry c.answer-first.ensures.untouched
     c.answer-first.result c.answer-first.ensures.state_after) _ (holds_of g.D.Disk.keeps _ _ c.self.invariant.run) in
     record {
-      run = on_machine g.D.Disk.keeps _ _ c.self.invariant.run _ _ (none_answered g.D.Disk.keeps _ _ c.answer-first.result c.in_default.not-Some so) refl refl;
+      run = on_machine g.D.Disk.keeps _ _ c.self.invariant.run _ _ (none_answered g.D.Disk.keeps _ _ c.answer-first.result c.in_default.not-Some so _) refl refl;
       bench = c.self.invariant.bench;
     }
 
@@ -33,8 +25,6 @@ invariant_of-self-2 g c =
     (answer_step g.D.Disk.keeps old new c.know_recovery.ensures.no_doubt c.know_recovery.ensures.now c.answer-first.ensures.geometry c.answer-first.ensures.untouched
     c.answer-first.result c.answer-first.ensures.state_after) _ (holds_of g.D.Disk.keeps _ _ c.self.invariant.run) in
     record {
-      run = on_trigger g.D.Disk.keeps _ _ (on_answer g.D.Disk.keeps _ _ c.self.invariant.run _ _ _ _
-          (rw c.in-Some.is at so) c.answer.ensures.lines c.answer.ensures.slots) _
-          (ap (λ (t : CheckpointTrigger). t.every) c.count.ensures ∙ same_every _ _);
+      run = on_answer g.D.Disk.keeps _ _ c.self.invariant.run _ _ _ _ (rw c.in-Some.is at so) c.count.ensures c.answer.ensures.lines c.answer.ensures.slots;
       bench = c.self.invariant.bench;
     }

@@ -3,10 +3,15 @@ use Rattle.std.proofs.Common.{◌≡◌, ap, false, refl, ◌∙◌}
 use Rattle.scheduler.proofs.IsCallEvent.{cut_called}
 use Rattle.scheduler.specs.CoreView.{core_state_of}
 use Rattle.serving.specs.Session.{SessionView}
+use Rattle.serving.specs.declared.checkpoints.CheckpointTrigger.{CheckpointTrigger}
 use Rattle.serving.proofs.CheckpointSteps.{halts, stays, waits}
 use Rattle.serving.proofs.Segments.{cut_is_quiet}
-use Rattle.serving.proofs.SessionInvariant.{holds_of, on_machine, on_trigger}
+use Rattle.serving.proofs.SessionInvariant.{holds_of, on_machine}
 use Rattle.serving.proofs.session.Session.begin_checkpoint.Goals as goal
+
+-- a trigger that starts anew
+restarts : (old new : CheckpointTrigger) → (new.every ≡ old.every) × (new.answered_since ≡ 0) → new ≡ record old { answered_since = 0 }
+restarts old new h i = record { every = h.0 i; answered_since = h.1 i }
 
 pub invariant_of-self : goal.invariant_of-self
 invariant_of-self g c =
@@ -15,7 +20,8 @@ invariant_of-self g c =
     let quiet = cut_is_quiet g.D.Disk.keeps old new c.cut.ensures.geometry c.cut.ensures.any_moment c.cut.result
     (cut_called old.geometry (core_state_of old) (core_state_of new) c.cut.result c.cut.ensures.state_after) c.cut.ensures.counts c.cut.ensures.untouched in
     record {
-      run = on_trigger g.D.Disk.keeps _ _ (on_machine g.D.Disk.keeps _ _ c.self.invariant.run _ _ (quiet _ (holds_of g.D.Disk.keeps _ _ c.self.invariant.run)) refl refl) _ c.restart.ensures.0;
+      run = rw (restarts c.self.inside.trigger c.restart.new.self c.restart.ensures)
+          (rw c.in-Ok.is at (on_machine g.D.Disk.keeps _ _ c.self.invariant.run _ _ (quiet _ (holds_of g.D.Disk.keeps _ _ c.self.invariant.run) _) refl refl));
       bench = c.self.invariant.bench;
     }
 
@@ -25,7 +31,7 @@ invariant_of-self-in-Err g c =
     let new = c.cut.new.self in
     let quiet = cut_is_quiet g.D.Disk.keeps old new c.cut.ensures.geometry c.cut.ensures.any_moment c.cut.result
     (cut_called old.geometry (core_state_of old) (core_state_of new) c.cut.result c.cut.ensures.state_after) c.cut.ensures.counts c.cut.ensures.untouched in
-    record { run = on_machine g.D.Disk.keeps _ _ c.self.invariant.run _ _ (quiet _ (holds_of g.D.Disk.keeps _ _ c.self.invariant.run)) refl refl; bench = c.self.invariant.bench }
+    record { run = rw c.in-Err.is at (on_machine g.D.Disk.keeps _ _ c.self.invariant.run _ _ (quiet _ (holds_of g.D.Disk.keeps _ _ c.self.invariant.run) _) refl refl); bench = c.self.invariant.bench }
 
 pub returns-in-Err-clause-session_step : goal.returns-in-Err-clause-session_step
 returns-in-Err-clause-session_step g c =

@@ -26,7 +26,7 @@ invariant_of-self-2 g c =
     let back = c.give_back.ensures.state_after in
     let given = gives_back g.D.Disk.keeps old.core old.dispatch_seat.lent c.know_recovery.ensures.no_doubt c.know_recovery.ensures.now
     (holds_of g.D.Disk.keeps _ _ c.self.invariant.run) c.args.k place s.0 c.in-Some.done s.1 s.2 c.give_back.new.self
-    c.give_back.ensures.geometry c.give_back.ensures.untouched back.0 back.1 back.2 back.3 in
+    c.give_back.ensures.geometry c.give_back.ensures.untouched back.0 back.1 back.2 back.3 _ in
     let places = ap (λ (l : List (Option JobView)). length l) s.3 ∙ length-set old.dispatch_seat.lent c.args.k None in
     record { run = on_machine g.D.Disk.keeps _ _ c.self.invariant.run _ _ (rw s.3 given) c.in-Some.ensures.bench places; bench = c.in-Some.ensures.bench ∙ c.self.invariant.bench }
 

@@ -1,7 +1,8 @@
 -- The lemmas on what is dispatched; and the session keeps its invariant.
-use Rattle.std.proofs.Common.{◌≡◌, ap, inl, inr, subst, ◌∙◌, ⊎_elim, refl}
+use Rattle.std.proofs.Common.{◌≡◌, ap, inl, inr, subst, sym, ◌∙◌, ⊎_elim, refl}
 use Rattle.std.specs.Prelude.{is_none, position}
 use Rattle.scheduler.specs.CoreView.{core_state_of}
+use Rattle.serving.specs.Checkpoints.{IsDue}
 use Rattle.serving.specs.DispatchesTo.{DispatchesTo}
 use Rattle.serving.specs.View.{session_view}
 use Rattle.serving.specs.SessionSteps.{HasMoved}
@@ -19,7 +20,8 @@ invariant_of-self g c =
     let first = ap (λ (p : SessionView). position is_none p.dispatch_seat.lent) c.self.view_is ∙ c.requires.first in
     let went = c.offer_granted.ensures.dispatches _ _ _ granted.state_after in
     let quiet = sends g.D.Disk.keeps old.core c.grant-granted.new.self lent c.know_recovery.ensures.no_doubt c.know_recovery.ensures.now granted.geometry
-    granted.untouched (holds_of g.D.Disk.keeps _ _ c.self.invariant.run) c.args.k first _ _ went in
+    granted.untouched (holds_of g.D.Disk.keeps _ _ c.self.invariant.run) c.args.k first old.trigger
+    (subst (λ (p : SessionView). IsDue p.trigger p.core.pieces_left → ⊥) (sym c.self.view_is) c.requires.not_due) _ _ went in
     record {
       run = on_machine g.D.Disk.keeps _ _ c.self.invariant.run _ _ quiet c.offer_granted.ensures.bench (as_many _ c.args.k _ _ lent _ _ went);
       bench = c.offer_granted.ensures.bench ∙ c.self.invariant.bench;

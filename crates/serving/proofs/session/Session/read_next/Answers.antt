@@ -40,7 +40,7 @@ stops : (g : Over) (c : After-next_line g) (read_end : ReadEnd)
     → IsSession g.R.Read.remaining g.L.ReplySink.sent g.L.ReplySink.sent_at g.D.Disk.keeps g.L.ReplySink.start (record c.self.inside { read_end = Some read_end; line_reader = c.next_line.new.self })
 stops g c read_end why = record {
   run = on_read_end g.D.Disk.keeps _ c.self.inside.core _ _ _ _ _ _ _ (none g c) refl refl (omega (arith, room g c)) (knows g c)
-      _ read_end c.self.invariant.run (still g.D.Disk.keeps _ (holds_of g.D.Disk.keeps _ _ c.self.invariant.run)) refl why;
+      _ read_end c.self.invariant.run (still g.D.Disk.keeps _ _ (holds_of g.D.Disk.keeps _ _ c.self.invariant.run)) refl why;
   bench = c.self.invariant.bench;
 }
 
@@ -74,7 +74,7 @@ invariant_of-self g c =
     record {
       run = on_read_end g.D.Disk.keeps _ f.core f.reorder_buffer f.outstanding (unread rest f.line_reader) (is_drained f.line_reader) (has_ended f.line_reader) _ (rest (source f.line_reader))
           (ap (λ (p : SessionView). p.read_end) c.self.view_is ∙ c.requires.reads) refl refl (omega (arith, may)) knows
-          _ ends_of_reading.EndOfInput u (still g.D.Disk.keeps _ (holds_of g.D.Disk.keeps _ _ u)) refl
+          _ ends_of_reading.EndOfInput u (still g.D.Disk.keeps _ _ (holds_of g.D.Disk.keeps _ _ u)) refl
           (none_left (unread rest f.line_reader) (c.if-is_drained.ensures.nothing refl), knows (and_parts _ _ (sym c.if-is_drained.ensures.value)).0);
       bench = c.self.invariant.bench;
     }
@@ -110,7 +110,7 @@ invariant_of-self-in-Err-take g c =
     rw took.4 (record {
       run = on_read_end g.D.Disk.keeps _ c.take.new.core c.take.new.reorder_buffer f.outstanding (unread rest n) (is_drained n) (has_ended n) _ (rest (source n)) (none g at.After-next_line)
           c.in-Err-take.ensures.slots (omega (arith, ap length took.5)) (omega (arith, room g at.After-next_line)) (knows g at.After-next_line)
-          _ (read_end_of took.1) u took.3.quiet took.5
+          _ (read_end_of took.1) u (took.3.quiet f.trigger) took.5
           (stops_at_refusal was_unread (rest (source n)) (is_drained f.line_reader) c.line.result.now took.2 gone took.3 (has_slot g.D.Disk.keeps _ _ took.0 (none g at.After-next_line) u place));
       bench = c.self.invariant.bench;
     })
