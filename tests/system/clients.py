@@ -1,22 +1,19 @@
 """The client of examples/client, its command, and the client on docs/program.md: what they take for a reply, what a
 client may leave unread, which lines have no reply after a kill, and what it leaves to send these again."""
-import fcntl
 import itertools
 import os
 import re
 import select
 import signal
 import socket
-import struct
 import subprocess
 import sys
-import termios
 import textwrap
 import threading
 import time
 import unittest.mock
 
-from .program import PATIENCE, PROGRAM, TOP, Case, bytes_of, read_until, run
+from .program import PATIENCE, PROGRAM, TOP, Case, bytes_in, bytes_of, read_until, run
 from .meaning import changes_of, empty_state, lines_that_read, refusal
 from .servers import COMMON, SMALL, WIDE, Device, Drawing, plain, replies_of, text_of
 
@@ -204,8 +201,8 @@ class Replies(Case):
             client.locked(self.device, wait=0)
         self.assertEqual(str(raised.exception), f"{self.device} is served already")
         closing = threading.Timer(0.3, server.close)
-        closing.start()
         began = time.monotonic()
+        closing.start()
         client.locked(self.device).close()
         self.assertGreater(time.monotonic() - began, 0.2)
         closing.join()
@@ -388,7 +385,7 @@ class Unread(Case):
         end = time.monotonic() + PATIENCE
         found = 0
         while found < size and time.monotonic() < end:
-            found = struct.unpack("i", fcntl.ioctl(pipe, termios.FIONREAD, bytes(4)))[0]
+            found = bytes_in(pipe)
             time.sleep(0.01)
         return found
 

@@ -310,10 +310,15 @@ class Front(Unit):
                 self.assertRegex(told.recv(100), b"STATUS=clients 0, lines answered 0, owed 1 for . s")
         put_bytes(self.at("open"), b"")
         told.settimeout(PATIENCE)
-        self.assertEqual(told.recv(100), b"READY=1")
+        ready = told.recv(100)
+        if ready.startswith(b"STATUS="):  # of the second that has ended meanwhile
+            ready = told.recv(100)
+        self.assertEqual(ready, b"READY=1")
         self.asks(first, b"", b"first\n")
-        found = [told.recv(100) for _ in range(3)]
-        self.assertIn(b"STATUS=clients 1, lines answered 1, owed 0", found)
+        found = [told.recv(100)]
+        while found[-1] != b"STATUS=clients 1, lines answered 1, owed 0" and len(found) < 3:
+            found.append(told.recv(100))
+        self.assertEqual(found[-1], b"STATUS=clients 1, lines answered 1, owed 0")
 
     def test_a_stop_in_the_opening(self):
         """SIGTERM while the device is opened ends the server in order; a server that can't open it ends the front"""

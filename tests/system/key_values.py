@@ -19,7 +19,8 @@ sys.path.append(FOLDER)
 import keys
 
 GEOMETRY = Geometry(1, 8, 8, 1, 8, 64, 64, 1024)
-SECONDS = 20  # of kills
+KILLS = 20  # of programs
+MOST_CHANGES = 200  # that have returned before a kill, or some more
 # A program that is given its folder, a device, waffd and a seed. It prints what it is about to change, each key with
 # the length of its new value or null, and an empty line once that has returned.
 PROGRAM_OF_A_STORE = """
@@ -106,17 +107,17 @@ class Stores(Case):
     def test_kills(self):
         """programs and their servers are killed, and each key has the last value that was put, or one on its way"""
         chance = random.Random(1)
-        certain, kills, changes = {}, 0, 0
-        end = time.monotonic() + SECONDS
-        while time.monotonic() < end:
-            told = self.told_by_a_killed_program(str(kills), chance)
+        certain, changes = {}, 0
+        for number in range(KILLS):
+            told = self.told_by_a_killed_program(str(number), chance)
             certain, count = self.judge(certain, told)
-            kills, changes = kills + 1, changes + count
-        print(f"       {kills} programs were killed, with {changes} changes that had returned:")
-        self.assertGreater(changes, kills)
+            changes += count
+        print(f"       {KILLS} programs were killed, with {changes} changes that had returned:")
+        self.assertGreater(changes, KILLS)
 
     def told_by_a_killed_program(self, seed, chance):
-        """What a program prints until it is killed. Now and then its server is killed before, or along with it."""
+        """What a program prints until it is killed: within a change, or now and then as it opens its store. Often its
+        server is killed before."""
         words = [sys.executable, "-c", PROGRAM_OF_A_STORE, FOLDER, self.device, os.path.abspath(PROGRAM), seed]
         child = self.started(words, stdout=subprocess.PIPE, text=True)
         lines = []
@@ -125,12 +126,23 @@ class Stores(Case):
         for _ in range(chance.randrange(3)):
             time.sleep(0.4 * chance.random())
             subprocess.run(["pkill", "-KILL", "-P", str(child.pid)], check=False)
-        time.sleep(0.2 + 0.8 * chance.random())
+        if chance.randrange(4) == 0:
+            time.sleep(0.4 * chance.random())
+        else:
+            self.goes_on(lines, 1 + 2 * chance.randrange(MOST_CHANGES))
+            time.sleep(0.01 * chance.random())
         self.assertIsNone(child.poll(), "the program has ended by itself")
         child.kill()
         reading.join(PATIENCE)
         child.communicate()
         return lines
+
+    def goes_on(self, lines, count):
+        """Waits until there are so many more lines, or patience ended."""
+        count += len(lines)
+        end = time.monotonic() + PATIENCE
+        while len(lines) < count and time.monotonic() < end:
+            time.sleep(0.001)
 
     def judge(self, certain, told):
         """What each key holds by the next store, and how many changes had returned. Asserts that it may."""

@@ -4,6 +4,7 @@ A state is a table of pieces: `(a, v)` is None or the volume's seal, files and l
 stripe. No piece is changed in its place. Data is digits to the last byte that isn't zero.
 """
 import collections
+import functools
 import itertools
 import re
 
@@ -20,6 +21,7 @@ WANT_THE_FILE = ("delete", "write", "punch", "read")
 LONGEST_LINE = 1100
 MOST_DIGITS = {"write": 1024, "setlabel": 64}  # of the data
 MOST_WAYS = 20000  # that are looked at for one kill
+MANY_LINES = 4096  # whose messages are kept, as runs that are judged one by one have the same lines
 
 
 def options_of(g):
@@ -46,6 +48,7 @@ def cut(data):
     return re.sub("(?<=.)(00)+$", "", data.lower())
 
 
+@functools.lru_cache(MANY_LINES)
 def message_of(line):
     """The words of a line that is a message, else None."""
     kind, *words = line.split(" ")
@@ -59,7 +62,7 @@ def message_of(line):
         return None
     if not all(re.fullmatch("([0-9A-Fa-f]{2})+", digits) and len(digits) <= MOST_DIGITS[kind] for digits in data):
         return None
-    return kind, list(map(int, numbers)), cut(data[0]) if data else None
+    return kind, tuple(map(int, numbers)), cut(data[0]) if data else None
 
 
 def in_range(g, message):
@@ -79,7 +82,7 @@ def place(g, message):
         return (n[0], n[1], 1)
     if kind in ("write", "punch", "read"):
         return (n[0], n[1], 0, group(g, n[2], n[3]))
-    return tuple(n)  # the server, or a volume
+    return n  # the server, or a volume
 
 
 def related(one, other):

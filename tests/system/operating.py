@@ -6,6 +6,7 @@ import os
 import re
 import shutil
 import subprocess
+import sys
 import time
 import unittest
 
@@ -16,6 +17,15 @@ from .meaning import Geometry, lines_that_read, options_of
 from .servers import COMMON, GREATEST, Drawing, replies_of, text_of
 
 COPY = os.path.join(TOP, "examples", "copy", "copy.py")
+# Runs copy.py with the words behind, and has it wait for no lock.
+HURRIED = (sys.executable, "-c", """
+import os, runpy, sys
+sys.path.append(os.path.join(os.path.dirname(sys.argv[1]), os.pardir, "client"))
+import client
+client.locked.__defaults__ = (0,)
+del sys.argv[0]
+runpy.run_path(sys.argv[0], run_name="__main__")
+""", COPY)
 SOCKETS = "/run/waffd/"
 FIRST_SYNC_OF_A_CHANGE = 6  # the opening makes five
 
@@ -217,14 +227,14 @@ class Copy(Case):
             self.has_refused(words, b"copy: missing: No such file or directory\n")
         with open(self.at("new"), "rb") as file:
             fcntl.flock(file, fcntl.LOCK_EX)
-            self.has_refused(["old", "new"], b"copy: new is served already\n")
+            self.has_refused(["old", "new"], b"copy: new is served already\n", program=HURRIED)
         self.has_refused(["old", "old"], b"copy: old and old are one file\n")
         with open("/dev/full", "wb") as full:
             self.has_refused(["old"], b"copy: No space left on device\n", stdout=full)
 
-    def has_refused(self, words, text, **streams):
+    def has_refused(self, words, text, **how):
         """Asserts that a copy ends so in the folder of the devices."""
-        self.has_ended(run(words, program=[COPY], cwd=self.folder, **streams), 1, b"", text)
+        self.has_ended(run(words, cwd=self.folder, **{"program": [COPY], **how}), 1, b"", text)
 
 
 class Stack(Case):
@@ -260,15 +270,18 @@ class Crash(Case):
         page = bytes_of(os.path.join(TOP, "docs", "protocol.md")).decode()
         lines = re.findall(r"^    (write 0 0 0 \d \w\w) {7}stripe", page, re.M)
         self.assertEqual(len(lines), 3)
+        replies_of(run(["format", self.at("device")]), "format")
+        run(["serve", self.at("device")], b"makevol 0 0\ncreate 0 0 0\n")
+        made = bytes_of(self.at("device"))
         for turn in range(120):
-            found = self.left_by_a_kill(lines, turn % 30 * 0.00002)
+            found = self.left_by_a_kill(made, lines, turn % 30 * 0.00002)
             self.assertIn(found[:2], (["hole", "hole"], ["block aa", "hole"], ["block aa", "block bb"]))
             self.assertIn(found[2], ("hole", "block cc"))
 
-    def left_by_a_kill(self, lines, seconds):
-        """What the three blocks hold where a server is killed so long after it was sent these lines."""
-        replies_of(run(["format", self.at("device")]), "format")
-        run(["serve", self.at("device")], b"makevol 0 0\ncreate 0 0 0\n")
+    def left_by_a_kill(self, made, lines, seconds):
+        """What the three blocks hold where a server of a device that was made so is killed so long after it was sent
+        these lines."""
+        put_bytes(self.at("device"), made)
         words = [PROGRAM, "serve", self.at("device")]
         server = self.started(words, stdin=subprocess.PIPE, stdout=subprocess.PIPE, bufsize=0)
         server.stdin.write(b"summary\n")

@@ -14,8 +14,8 @@ import time
 import unittest
 
 from .program import (
-    DEVICE_FAULT, MADE, PATIENCE, PROGRAM, READ_FAULT, REPLIES, WRITE_FAULT, Case, bytes_of, is_beginning, put_bytes,
-    read_until, run)
+    DEVICE_FAULT, MADE, PATIENCE, PROGRAM, READ_FAULT, REPLIES, WRITE_FAULT, Case, bytes_in, bytes_of, is_beginning,
+    put_bytes, read_until, run)
 from .servers import COMMON, SMALL, Device, File, text_of
 
 HELP = ("--help", "-h", "help", "plain --help", "help plain", "serve --help", "serve -h", "help serve")
@@ -88,8 +88,7 @@ class Statuses(Case):
         """A file that the system doesn't let be written, since a program runs from it."""
         path = self.at("runs")
         shutil.copy("/bin/sleep", path)
-        child = self.started([path, "60"])
-        time.sleep(0.2)
+        child = self.started([path, "60"])  # which has begun to run by then
         self.ends("serve of a file that is busy", run(["serve", path], MADE), 1, b"", DEVICE_FAULT)
         self.ends("show of it, which only reads", run(["show", path]), 1, b"", b"waffd: not formatted\n")
         child.kill()
@@ -159,8 +158,11 @@ class Streams(Case):
         child = self.started([PROGRAM, "plain"], stdin=ours, stdout=subprocess.DEVNULL, stderr=subprocess.DEVNULL,
                              preexec_fn=close)
         os.close(ours)
-        time.sleep(0.3)  # it waits for input now
-        try:
+        os.write(theirs, b"s")
+        end = time.monotonic() + PATIENCE
+        while bytes_in(theirs) and time.monotonic() < end:
+            time.sleep(0.01)
+        try:  # it waits for the rest of the line now
             for number in closed:
                 shown = bytes_of(f"/proc/{child.pid}/fdinfo/{number}")
                 flags = int(shown.split(b"flags:")[1].split()[0], 8)

@@ -1,11 +1,13 @@
 """The program that is tried, how it is run, and how it has to end. A check is a subtest, or a test without any."""
 import contextlib
+import fcntl
 import os
 import pathlib
 import select
 import struct
 import subprocess
 import tempfile
+import termios
 import time
 import unittest
 
@@ -65,6 +67,11 @@ def read_until(source, is_enough, size=1, patience=PATIENCE):
 def is_beginning(found, whole):
     """Whole lines that are a beginning."""
     return whole.startswith(found) and (not found or found.endswith(b"\n"))
+
+
+def bytes_in(pipe):
+    """How many bytes a pipe holds that nobody has read yet."""
+    return struct.unpack("i", fcntl.ioctl(pipe, termios.FIONREAD, bytes(4)))[0]
 
 
 def bytes_of(path):
