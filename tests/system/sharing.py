@@ -22,7 +22,7 @@ FRONT = os.path.join(TOP, "operations", "service", "front.py")
 SECONDS = float(os.environ.get("FRONT", 60))  # of all rounds together, without a mistake
 ROUND = 10  # seconds of a round
 SHORT_ROUND = 2  # .. where there is a mistake
-MOST_ROUNDS = 15  # in which it has to be found
+MOST_ROUNDS = 40  # in which it has to be found
 CLIENTS = 6
 LOCK = ("flock", "--nonblock", "--no-fork", "--conflict-exit-code", "75")
 # How a front may end: by SIGTERM, also before it waits for that; by a kill of it or of its server; without the lock.

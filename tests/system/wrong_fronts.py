@@ -3,6 +3,8 @@
 
     wrong_fronts.py MISTAKE ARGUMENTS     as front.py ARGUMENTS
 """
+import contextlib
+import functools
 import os
 import random
 import sys
@@ -137,15 +139,28 @@ class RunAgain(Mistaken):
 
 
 class GoneLate(Mistaken):
-    """The lines of a client that has gone are handed on some time later."""
+    """The lines of a client that has gone are handed on some time after a later one was answered."""
+
+    def __init__(self, *arguments):
+        super().__init__(*arguments)
+        self.left = []  # lines of a client that has gone, with the clients that were there by then
 
     def let_go(self, client):
+        if not client.waiting:
+            with contextlib.suppress(OSError):
+                client.receive(self.now)  # what it sent before it closed
         lines = client.waiting
         super().let_go(client)
-        count = min(lines.count(b"\n"), front.TURN)
-        if count:
-            _, lines, _ = front.divided(lines, count)
-            self.set.add(lambda: self.ask(Gone, count, lines))
+        if lines:
+            self.left.append((lines, {client, *self.clients.values()}))
+
+    def attend(self, client, event):
+        super().attend(client, event)
+        if event & front.select.EPOLLOUT:
+            for lines, there in self.left:
+                if client not in there:
+                    self.set.add(functools.partial(self.ask, Gone, *front.divided(lines, front.TURN)[:2]))
+            self.left = [(lines, there) for lines, there in self.left if client in there]
 
 
 class TakesBack(Mistaken):
