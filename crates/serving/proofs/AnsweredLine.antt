@@ -18,7 +18,7 @@ use Rattle.protocol.specs.declared.replies.Reply.{Reply}
 use Rattle.scheduler.specs.Calls.{answer_outcome}
 use Rattle.scheduler.specs.CoreView.{CoreView}
 use Rattle.serving.specs.Lines.{Completed, AreKnown, IsKnown, Line, NoMessage, NoneIsTo, OutOfRange, Pending, complete_one, admitted, admitted_in, has_answer, next_ticket, ticketed}
-use Rattle.serving.specs.Checkpoints.{DispatchInTime, trigger_after}
+use Rattle.serving.specs.Checkpoints.{AreTimely, trigger_after}
 use Rattle.serving.specs.Progress.{ServingProgress}
 use Rattle.serving.specs.Runs.{HandsHaveJobs, IsInternal, RunsBetween}
 use Rattle.serving.specs.declared.checkpoints.CheckpointTrigger.{CheckpointTrigger}
@@ -107,18 +107,18 @@ answered_goes_on {start} {ticket} {reply} {unsent} p h =
 abbrev pub IsAnswered : Type 0 → MachineView → MachineView → Option (ℕ × Reply) → Type 0
 IsAnswered keeps old new None = (trigger : CheckpointTrigger) → IsInternal keeps trigger trigger old new
 IsAnswered keeps old new (Some a) = HandsHaveJobs new × (r : RunsBetween keeps old new [] (a ∷ []))
-    × ((trigger : CheckpointTrigger) → DispatchInTime trigger (machine_of old) (events_of r.device_events) (trigger_after trigger a.1))
+    × ((trigger : CheckpointTrigger) → AreTimely trigger (machine_of old) (events_of r.device_events) (trigger_after trigger a.1))
 
 pub is_answered_so : (keeps : Type 0) (old new : CoreView) (r : Option (ℕ × Reply)) → IsCoreStep keeps old new steps.Answer (answer_outcome r)
     → (hands : List HandContent) → HandsHaveJobs (record { core = old; hands = hands })
     → IsAnswered keeps (record { core = old; hands = hands }) (record { core = new; hands = hands }) r
-is_answered_so keeps old new None k hands h = core_is_quiet steps.Answer outcomes.Idle k refl refl (refl, refl, λ trigger. refl) h
+is_answered_so keeps old new None k hands h = λ trigger. core_is_quiet steps.Answer outcomes.Idle k refl refl (refl, tt, refl) h
 is_answered_so keeps old new (Some a) k hands h =
     let outcome = outcomes.Answered a.0 a.1 in
     let did = core_step keeps old new hands steps.Answer outcome h k in (
       core_holds keeps old new hands steps.Answer outcome h k refl,
       step_passes did,
-      λ trigger. step_in_time did trigger (λ is. absurd (true≢false (sym is))),
+      λ trigger. step_in_time did trigger tt,
     )
 
 -- where no message was answered

@@ -1,7 +1,6 @@
 -- What is collected from the bench: the job of a place has run, and its result is given back.
-use Rattle.std.proofs.Common.{◌≡◌, ℕ, ◌<◌, true, false, List, [], Option, Some, None, refl, ap, sym, ◌∙◌, length, map, set, arith}
+use Rattle.std.proofs.Common.{◌≡◌, ℕ, ◌<◌, true, false, List, [], Option, Some, None, refl, ap, ◌∙◌, length, map, set, arith}
 use Rattle.std.specs.Prelude.{option_map, slice_get, get_or}
-use Rattle.std.proofs.lemmas.Bool.{true≢false}
 use Rattle.std.proofs.lemmas.Option.{slice_get-get_or, slice_get-map}
 use Rattle.std.proofs.lemmas.List.{get_or-set_same, length-map, map-set, length-set, set-set}
 use Rattle.histories.specs.Events.{give_back, find_in_flight}
@@ -19,7 +18,7 @@ use Rattle.scheduler.specs.CoreView.{CoreView, RecoversNow, core_state_of}
 use Rattle.serving.specs.Runs.{HandsHaveJobs, IsInternal, lent_hand, machine_with_jobs}
 use Rattle.serving.specs.declared.checkpoints.CheckpointTrigger.{CheckpointTrigger}
 use Rattle.serving.proofs.RunsBetween.{passes_on}
-use Rattle.serving.proofs.DispatchInTime.{in_time_on}
+use Rattle.serving.proofs.TimelyCheckpoints.{in_time_on}
 use Rattle.serving.proofs.Segments.{step_in_time, step_passes}
 use Rattle.workers.specs.Rule.{lent_at}
 
@@ -64,6 +63,5 @@ module _ (keeps : Type 0) (core : CoreView) (lent : List (Option JobView)) (none
         rw (map-set lent_hand lent k None, ← set-set hands k (has.Result done) has.Empty) (record {
           holds = back_holds keeps core ran none recovers moved.1 k done result_there new geometry same found one_out reply_pairs state_after;
           segment = passes_on (step_passes moved.0) (step_passes back);
-          in_time = in_time_on _ _ _ (step_passes moved.0) (step_passes back)
-              (step_in_time moved.0 trigger (λ is. absurd (true≢false (sym is)))) (step_in_time back trigger (λ is. absurd (true≢false (sym is))));
+          in_time = in_time_on _ _ _ (step_passes moved.0) (step_passes back) (step_in_time moved.0 trigger tt) (step_in_time back trigger tt);
         })

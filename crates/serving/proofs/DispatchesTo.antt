@@ -10,7 +10,6 @@ use Rattle.histories.specs.CoreState.{CoreState}
 use Rattle.histories.specs.declared.outcomes.Outcome.{Outcome}
 use Rattle.histories.specs.declared.outcomes.Outcome.TheVariants as outcomes
 use Rattle.histories.specs.declared.outcomes.Step.TheVariants as steps
-use Rattle.histories.specs.Runs.{answers}
 use Rattle.scheduler.proofs.MachineSteps.{failed_step, grant_holds, grant_step, no_grant_step, position_within, still_holds}
 use Rattle.scheduler.proofs.Lists.{position_map}
 use Rattle.scheduler.specs.Hands.{hand_of as to_hand}
@@ -22,14 +21,14 @@ use Rattle.scheduler.specs.declared.hands.HandContent.TheVariants as has
 use Rattle.parcel.specs.JobRun.{JobView}
 use Rattle.scheduler.specs.Calls.{IsGrantOf, IsNoGrant}
 use Rattle.scheduler.specs.CoreView.{CoreView, RecoversNow, core_state_of}
-use Rattle.serving.specs.Checkpoints.{DispatchInTime, IsDue, trigger_after_event}
+use Rattle.serving.specs.Checkpoints.{AreTimely, IsDue}
 use Rattle.serving.specs.DispatchesTo.{DispatchesTo, IsBlocked}
 use Rattle.serving.specs.Runs.{HandsHaveJobs, IsInternal, lent_hand, machine_with_jobs}
 use Rattle.serving.specs.declared.checkpoints.CheckpointTrigger.{CheckpointTrigger}
 use Rattle.serving.specs.declared.dispatch.Blocked.{Blocked}
 use Rattle.serving.specs.declared.dispatch.Blocked.TheVariants as blocked
 use Rattle.serving.proofs.RunsBetween.{told_as}
-use Rattle.serving.proofs.Segments.{step_in_time, step_passes}
+use Rattle.serving.proofs.Segments.{IsQuiet, step_in_time, step_passes}
 use Rattle.workers.specs.Rule.{lent_at}
 
 -- ---- the first place where nothing is lent is the least empty hand
@@ -61,39 +60,39 @@ module _ (keeps : Type 0) (old new : CoreView) (lent : List (Option JobView)) (n
   least = position_map lent_hand vacant is_none same_test lent ∙ first
 
   -- a grant in which no message is answered is an internal step
-  quiet : (after : List HandContent) (outcome : Outcome) → answers outcome ≡ [] → trigger_after_event trigger outcome ≡ trigger
+  quiet : (after : List HandContent) (outcome : Outcome) → IsQuiet trigger (core_state_of old) outcome trigger
       → HandsHaveJobs (record { core = new; hands = after })
       → IsMachineStep keeps (record { core = old; hands = hands }) (record { core = new; hands = after }) steps.Grant outcome
       → IsInternal keeps trigger trigger (machine_with_jobs old lent) (record { core = new; hands = after })
-  quiet after outcome none_told none_counted holds step = record {
+  quiet after outcome is holds step = record {
     holds = holds;
-    segment = told_as (step_passes step) refl none_told;
-    in_time = subst (DispatchInTime trigger (machine_of (machine_with_jobs old lent)) (events_of (step_passes step).device_events)) none_counted
-        (step_in_time step trigger (λ _. not_due));
+    segment = told_as (step_passes step) refl is.0;
+    in_time = subst (AreTimely trigger (machine_of (machine_with_jobs old lent)) (events_of (step_passes step).device_events)) is.2
+        (step_in_time step trigger is.1);
   }
 
   goes_out : (job : JobView) → IsGrantOf old.geometry (core_state_of old) (core_state_of new) job
       → IsInternal keeps trigger trigger (machine_with_jobs old lent) (machine_with_jobs new (set lent k (Some job)))
   goes_out job g = rw (map-set lent_hand lent k (Some job))
-      (quiet (set hands k (has.Job job)) (outcomes.Granted k job.ticket) refl refl
+      (quiet (set hands k (has.Job job)) (outcomes.Granted k job.ticket) (refl, not_due, refl)
       (grant_holds keeps old new hands none recovers geometry same k least job g h (position_within hands k least))
       (grant_step keeps old new hands none recovers geometry same k least job g))
 
-  none_goes : (why : Outcome) → answers why ≡ [] → trigger_after_event trigger why ≡ trigger → IsNoGrant old.geometry (core_state_of old) (core_state_of new) why
+  none_goes : (why : Outcome) → IsQuiet trigger (core_state_of old) why trigger → IsNoGrant old.geometry (core_state_of old) (core_state_of new) why
       → IsInternal keeps trigger trigger (machine_with_jobs old lent) (machine_with_jobs new lent)
-  none_goes why none_told none_counted g = quiet hands why none_told none_counted (still_holds keeps old new hands none recovers geometry same h g.same)
+  none_goes why is g = quiet hands why is (still_holds keeps old new hands none recovers geometry same h g.same)
       (no_grant_step keeps old new hands none recovers geometry same k why least g)
 
   none_goes_any_more : old.failed ≡ true → core_state_of new ≡ core_state_of old
       → IsInternal keeps trigger trigger (machine_with_jobs old lent) (machine_with_jobs new lent)
-  none_goes_any_more failed still = quiet hands outcomes.Failed refl refl (still_holds keeps old new hands none recovers geometry same h still)
+  none_goes_any_more failed still = quiet hands outcomes.Failed (refl, tt, refl) (still_holds keeps old new hands none recovers geometry same h still)
       (failed_step keeps old new hands none recovers geometry same k least failed still)
 
   stays : (why : Blocked) → IsBlocked old.geometry (core_state_of old) (core_state_of new) lent why
       → IsInternal keeps trigger trigger (machine_with_jobs old lent) (machine_with_jobs new lent)
   stays blocked.NoPlace none = cc (sym first ∙ none.0)
-  stays blocked.NoneEligible none = none_goes outcomes.NoneEligible refl refl none
-  stays blocked.NoRoom none = none_goes outcomes.NoRoom refl refl none
+  stays blocked.NoneEligible none = none_goes outcomes.NoneEligible (refl, tt, refl) none
+  stays blocked.NoRoom none = none_goes outcomes.NoRoom (refl, tt, refl) none
   stays blocked.Failed none = none_goes_any_more none.0 none.1
 
   -- Whether a job is lent then or none.

@@ -1,7 +1,6 @@
--- Worked examples, by computing: which lines take tickets, what is known of lines, for how many turns a line may wait, and when no message
--- is dispatched.
-use Rattle.std.proofs.Common.{◌≡◌, ℕ, false, List, [], ◌∷◌, None, map, refl, sym, lit≤, ap, arith, ⊎_elim}
-use Rattle.std.proofs.lemmas.Bool.{true≢false}
+-- Worked examples, by computing: which lines take tickets, what is known of lines, for how many turns a line may wait, and when a
+-- message may be dispatched and a checkpoint begin.
+use Rattle.std.proofs.Common.{◌≡◌, ◌<◌, ℕ, false, List, [], ◌∷◌, None, map, refl, lit≤, ap, arith, inl, inr, ⊎_elim}
 use Rattle.std.specs.Prelude.{codes}
 use Rattle.affinity.proofs.GeometryLemmas.{small}
 use Rattle.affinity.specs.Geometry.{default_geometry}
@@ -19,7 +18,7 @@ use Rattle.protocol.specs.declared.replies.Reply.{Reply}
 use Rattle.protocol.specs.declared.replies.Reply.TheVariants.{Done, Summary}
 use Rattle.meaning.specs.Output.{joined, output_lines}
 use Rattle.meaning.specs.State.{empty}
-use Rattle.serving.specs.Checkpoints.{WaitsForCheckpoints}
+use Rattle.serving.specs.Checkpoints.{HasTimelyCheckpoints, IsDue}
 use Rattle.serving.specs.Lines.{Completed, AreKnown, NoMessage, NoneIsTo, OutOfRange, Pending, admitted, next_ticket, answer_text, ticketed}
 use Rattle.serving.specs.Turns.{turns_an_answer}
 
@@ -90,19 +89,29 @@ module _ (w : MachineState) (none : w.core.pieces_left ≡ None) where
   abbrev event : Outcome → Event
   event outcome = record { step = steps.Grant; outcome = outcome; device_failed = false; state_after = w }
 
+  is_due : IsDue (record { every = 1; answered_since = 1 }) w.core.pieces_left
+  is_due = record { none = none; by_count = λ e. absurd (omega (arith, e)); enough = lit≤ tt }
+
   -- Where one is due after each record, no message is dispatched once a change is answered.
-  none_is_dispatched : WaitsForCheckpoints 1 w (event (outcomes.Answered 7 Done) ∷ event (outcomes.Granted 0 8) ∷ []) → ⊥
-  none_is_dispatched h = h.1.1.0 refl (record { none = none; by_count = λ e. absurd (omega (arith, e)); enough = lit≤ tt })
+  none_is_dispatched : HasTimelyCheckpoints 1 w (event (outcomes.Answered 7 Done) ∷ event (outcomes.Granted 0 8) ∷ []) → ⊥
+  none_is_dispatched h = h.1.1.0 is_due
 
   -- Once the checkpoint has begun, the next one is.
-  dispatched_behind_the_cut : WaitsForCheckpoints 1 w (event (outcomes.Answered 7 Done) ∷ event outcomes.Cut ∷ event (outcomes.Granted 0 8) ∷ [])
-  dispatched_behind_the_cut =
-      (_, (λ is. absurd (true≢false (sym is)), (λ is. absurd (true≢false (sym is)), (λ is due. let enough = due.enough in absurd (omega (arith, enough)), refl))))
+  dispatched_behind_the_cut : HasTimelyCheckpoints 1 w (event (outcomes.Answered 7 Done) ∷ event outcomes.Cut ∷ event (outcomes.Granted 0 8) ∷ [])
+  dispatched_behind_the_cut = (_, (tt, (inl is_due, (λ due. let enough = due.enough in absurd (omega (arith, enough)), refl))))
 
   -- A message that changes nothing is not counted.
-  a_read_is_not_counted : WaitsForCheckpoints 1 w (event (outcomes.Answered 7 (Summary 1 0 0)) ∷ event (outcomes.Granted 0 8) ∷ [])
-  a_read_is_not_counted = (_, (λ is. absurd (true≢false (sym is)), (λ is due. let enough = due.enough in absurd (omega (arith, enough)), refl)))
+  a_read_is_not_counted : HasTimelyCheckpoints 1 w (event (outcomes.Answered 7 (Summary 1 0 0)) ∷ event (outcomes.Granted 0 8) ∷ [])
+  a_read_is_not_counted = (_, (tt, (λ due. let enough = due.enough in absurd (omega (arith, enough)), refl)))
 
   -- With 0 none is due by their count.
-  none_is_due : WaitsForCheckpoints 0 w (event (outcomes.Answered 7 Done) ∷ event (outcomes.Granted 0 8) ∷ [])
-  none_is_due = (_, (λ is. absurd (true≢false (sym is)), (λ is due. due.by_count refl, refl)))
+  none_is_due : HasTimelyCheckpoints 0 w (event (outcomes.Answered 7 Done) ∷ event (outcomes.Granted 0 8) ∷ [])
+  none_is_due = (_, (tt, (λ due. due.by_count refl, refl)))
+
+  -- None begins before it is due, while the log has room.
+  none_begins_too_early : 0 < w.core.room → HasTimelyCheckpoints 2 w (event (outcomes.Answered 7 Done) ∷ event outcomes.Cut ∷ []) → ⊥
+  none_begins_too_early room h = ⊎_elim (λ due. let enough = due.enough in absurd (omega (arith, enough))) (λ full. absurd (omega (arith, room, full))) h.1.1.0
+
+  -- One may begin where the log has none.
+  one_begins_for_room : w.core.room ≡ 0 → HasTimelyCheckpoints 0 w (event outcomes.Cut ∷ [])
+  one_begins_for_room full = (_, (inr full, refl))

@@ -6,7 +6,7 @@ pub mod KeepsPromise
 -- ---- this crate's own
 mod MaySend
 mod RunsBetween
-mod DispatchInTime
+mod TimelyCheckpoints
 mod Tickets
 mod Segments
 mod Collected

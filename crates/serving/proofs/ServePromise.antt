@@ -9,7 +9,7 @@ use Rattle.scheduler.specs.Machine.{MachineView, machine_of}
 use Rattle.protocol.specs.Lines.{lines}
 use Rattle.meaning.specs.Progress.{TakesLines}
 use Rattle.scheduler.specs.CoreView.{CoreView, RecoversNow, core_state_of}
-use Rattle.serving.specs.Checkpoints.{WaitsForCheckpoints}
+use Rattle.serving.specs.Checkpoints.{HasTimelyCheckpoints}
 use Rattle.serving.specs.Progress.{ServingProgress}
 use Rattle.serving.specs.Lines.{Line}
 use Rattle.reorder_buffer.specs.ReorderBuffer.{can_retire}
@@ -35,7 +35,7 @@ all_taken (Some input) (Some bs) ended consumed t at_end =
 -- where each line that was consumed is answered, and all was written that was to be
 all_answered : {keeps : Type 0} {start : MachineView} {new : CoreView} {input before written : Option (List ℕ)} {end : Result (Unit {0}) ServeFault}
     {every : ℕ} → (served : HasServed keeps start new [] input before written) → IsMeant (failed_at end) start.core.slots 0 before written written
-    → AreUnsent end input served.consumed [] → WaitsForCheckpoints every (machine_of start) (events_of served.run.segment.device_events)
+    → AreUnsent end input served.consumed [] → HasTimelyCheckpoints every (machine_of start) (events_of served.run.segment.device_events)
     → HasRunWith keeps every start new input before written end
 all_answered {written} served is none in_time = record {
   unsent = [];
@@ -48,11 +48,11 @@ all_answered {written} served is none in_time = record {
   in_time = in_time;
 }
 
--- How far a server has come, in a run in which no message was dispatched while a checkpoint was due.
+-- How far a server has come, in a run whose checkpoints were timely.
 pub record ProgressInTime (keeps : Type 0) (every : ℕ) (start now : MachineView) (unsent : List Line) (input unread : Option (List ℕ)) (drained : Bool)
     (before written : Option (List ℕ)) : Type 0 where
   pub progress : ServingProgress keeps start now unsent input unread drained before written
-  pub in_time : WaitsForCheckpoints every (machine_of start) (events_of progress.serving.segment.device_events)
+  pub in_time : HasTimelyCheckpoints every (machine_of start) (events_of progress.serving.segment.device_events)
 
 -- given what `know_recovery` ensures of the core at the end
 module _ {keeps : Type 0} {every : ℕ} {start now : MachineView} (idle : IsIdle (core_state_of start.core)) {input unread : Option (List ℕ)} {ended : Bool}
@@ -111,7 +111,7 @@ module _ (keeps : Type 0) (core : CoreView) (places every : ℕ) (idle : IsIdle 
       let start = machine_with_jobs core (replicate places None) in
       has_served keeps start start idle no_doubt recovers (omega arith) (starts keeps start input before)
 
-  none_dispatched : WaitsForCheckpoints every (machine_of (machine_with_jobs core (replicate places None))) (events_of not_run.run.segment.device_events)
+  none_dispatched : HasTimelyCheckpoints every (machine_of (machine_with_jobs core (replicate places None))) (events_of not_run.run.segment.device_events)
   unfolding not_run has_served starts stays
   none_dispatched = (_, refl)
 

@@ -13,7 +13,7 @@ use Rattle.protocol.specs.declared.replies.Reply.{Reply}
 use Rattle.meaning.proofs.TakesLines.{takes_long_line}
 use Rattle.meaning.specs.Output.{joined}
 use Rattle.scheduler.specs.CoreView.{core_state_of}
-use Rattle.serving.specs.Checkpoints.{DispatchInTime}
+use Rattle.serving.specs.Checkpoints.{AreTimely}
 use Rattle.serving.specs.Lines.{Line, answer_text, complete_one}
 use Rattle.serving.specs.Start.{Start, start_machine, start_trigger}
 use Rattle.serving.specs.TakesLine.{IsTaken}
@@ -21,7 +21,7 @@ use Rattle.serving.specs.Restart.{WritesBeginning}
 use Rattle.serving.specs.Runs.{IsInternal, RunsBetween}
 use Rattle.serving.specs.SessionInvariant.{ServingSince}
 use Rattle.serving.specs.declared.checkpoints.CheckpointTrigger.{CheckpointTrigger}
-use Rattle.serving.proofs.DispatchInTime.{in_time_on}
+use Rattle.serving.proofs.TimelyCheckpoints.{in_time_on}
 use Rattle.serving.proofs.SentLines.{Sends, sends_on}
 use Rattle.serving.proofs.AnsweredLine.{answered_goes_on}
 use Rattle.serving.proofs.TakesLine.{serves_taken, takes_in}
@@ -45,7 +45,7 @@ module _ {keeps : Type 0} {s : Start} {old new : MachineView} {unsent : List Lin
 
   -- A message was answered, and its line in the reorder buffer is completed.
   pub answered_since : {ticket : ℕ} {reply : Reply} {last : CheckpointTrigger} (p : RunsBetween keeps old new [] ((ticket, reply) ∷ []))
-      → DispatchInTime trigger (machine_of old) (events_of p.device_events) last
+      → AreTimely trigger (machine_of old) (events_of p.device_events) last
       → ServingSince keeps s last new (map (complete_one ticket reply) unsent) unread drained whole sent_at sent
   unfolding answered_goes_on passes_on
   answered_since p in_time = record {

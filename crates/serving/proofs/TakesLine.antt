@@ -1,6 +1,5 @@
 -- A line that is read, and its message, which arrives if it takes a ticket.
 use Rattle.std.proofs.Common.{◌≡◌, ◌≢◌, ℕ, true, false, List, [], ◌∷◌, ◌++◌, Option, refl, ap, sym, ◌∙◌, subst, append_assoc, append-nil, arith, Some, None}
-use Rattle.std.proofs.lemmas.Bool.{true≢false}
 use Rattle.std.specs.Prelude.{Result, Ok, Err}
 use Rattle.affinity.specs.declared.geometry.Geometry.{Geometry}
 use Rattle.histories.proofs.Elements.{in_contained}
@@ -106,7 +105,7 @@ module _ (keeps : Type 0) (old new : CoreView) (m : Msg) (hands : List HandConte
   with_ticket t step fits is_next = let did = core_step keeps old new hands (steps.Arrive m) (outcomes.Ticket t) h step in record {
     holds = core_holds keeps old new hands (steps.Arrive m) (outcomes.Ticket t) h step refl;
     segment = told_as (step_passes did) (rw fits (rw is_next refl)) refl;
-    in_time = λ trigger. step_in_time did trigger (λ is. absurd (true≢false (sym is)));
+    in_time = λ trigger. step_in_time did trigger tt;
     is_known = (fits, is_next, λ reply there. absurd (in_contained [] (t, reply) there));
   }
 
@@ -117,14 +116,14 @@ module _ (keeps : Type 0) (old new : CoreView) (m : Msg) (hands : List HandConte
       record {
         holds = core_holds keeps old new hands (steps.Arrive m) (outcomes.ArriveRefused arrivals.Range) h step refl;
         segment = told_as (step_passes did) (rw out refl) refl;
-        in_time = λ trigger. step_in_time did trigger (λ is. absurd (true≢false (sym is)));
+        in_time = λ trigger. step_in_time did trigger tt;
         is_known = out;
       }
 
   refused : (why : ArriveRefusal) → why ≢ arrivals.Range → IsCoreStep keeps old new (steps.Arrive m) (outcomes.ArriveRefused why)
       → (outcomes.ArriveRefused why, core_state_of new) ≡ arrive old.geometry (core_state_of old) m → IsRefusedLine keeps was now m why
   refused why not_range step e = record {
-    quiet = core_is_quiet (steps.Arrive m) (outcomes.ArriveRefused why) step refl refl (refl, refl, λ trigger. refl) h;
+    quiet = λ trigger. core_is_quiet (steps.Arrive m) (outcomes.ArriveRefused why) step refl refl (refl, tt, refl) h;
     refused = sym (ap (λ (x : Outcome × CoreState). x.0) e);
     not_range = not_range;
   }

@@ -1,35 +1,30 @@
 -- Each turn that waits for no worker leaves less to do, but for the lines that it reads: by how the turn has gone on. And what follows for any
 -- number of turns.
 use Rattle.std.proofs.Common.{◌≡◌, ◌≢◌, ◌==◌, ◌<◌, ◌≤◌, ◌+◌, ◌-◌, ◌*◌, ℕ, zero, suc, Bool, true, false, List, [], ◌∷◌, Option, Some, None, refl, ap, sym, subst, ◌∙◌, length, ⊎_elim, arith}
-use Rattle.std.specs.Prelude.{◌&&◌, ◌||◌, not, cond, count_by, if◌then◌else◌, is_none, is_some, nat_le, nat_lt}
+use Rattle.std.specs.Prelude.{◌&&◌, not, cond, is_none, is_some, nat_le, nat_lt}
 use Rattle.std.specs.List.{list_any}
 use Rattle.std.proofs.lemmas.Bool.{true≢false, and_from, and_parts, false_from_ne_true, le-leb, leb-true, lt-ltb, ltb-true, ne_eqb}
 use Rattle.std.proofs.lemmas.List.Sums.{sum_by-cons}
-use Rattle.std.proofs.Math.Bool.{and-false, or-true}
+use Rattle.std.proofs.Math.Bool.{and-false}
 use Rattle.std.proofs.Math.Nat.{le-mul_of_pos_right, mul-le-mul_left}
 use Rattle.affinity.specs.declared.geometry.Geometry.{Geometry}
 use Rattle.image.specs.Pieces.{piece_count}
-use Rattle.histories.proofs.Idle.{none_in_flight, none_ran}
-use Rattle.histories.specs.CoreState.{CoreState, Entry, IsIdle, Replied, held}
-use Rattle.histories.specs.Eligible.{changes, has_room, is_conflict_free, lacks_only_room, unlogged_changes}
-use Rattle.histories.specs.Events.{grant_refusal}
+use Rattle.histories.specs.CoreState.{CoreState, held}
 use Rattle.histories.specs.Progress.{points_left}
-use Rattle.histories.specs.declared.outcomes.Outcome.{Outcome}
-use Rattle.histories.specs.declared.outcomes.Outcome.TheVariants as outcomes
 use Rattle.parcel.specs.JobRun.{JobView}
 use Rattle.reorder_buffer.specs.ReorderBuffer.{ReorderBufferView}
 use Rattle.scheduler.specs.CoreView.{core_state_of}
 use Rattle.serving.specs.Checkpoints.{IsDue}
 use Rattle.serving.specs.DispatchesTo.{NoneInFlight}
 use Rattle.serving.specs.Session.{CanReadLine, SessionView, steps_ahead}
-use Rattle.serving.specs.SessionSteps.{Advanced, Began, CallsForCheckpoint, CanRead, HasGoneOn, HasTakenLines, HasTakenNone, IsBlockedIn, IsResting, MovedCheckpoint, Rests, StandsStill, TookStep, Waited}
+use Rattle.serving.specs.SessionSteps.{Advanced, Began, CallsForCheckpoint, CanRead, HasGoneOn, HasTakenLines, HasTakenNone, IsResting, MovedCheckpoint, Rests, StandsStill, TookStep, Waited}
 use Rattle.serving.specs.Turns.{AreTurns, IsInBounds, LoopView, busy_turns, can_read, is_busy, is_counted, lines_read, lines_sent, may_wait, pieces, slots, turns_a_line, turns_a_step, turns_an_answer, turns_left}
 use Rattle.serving.specs.declared.checkpoints.CheckpointTrigger.{CheckpointTrigger}
-use Rattle.serving.specs.declared.dispatch.Blocked.TheVariants as blocked
 use Rattle.serving.specs.declared.session.Activity.{Activity}
 use Rattle.serving.specs.declared.session.Activity.TheVariants as activities
 use Rattle.serving.specs.declared.session.ReadEnd.{ReadEnd}
 use Rattle.serving.proofs.StepsAhead.{keeps_ahead}
+use Rattle.serving.proofs.TimelyCheckpoints.{due_or_full}
 
 -- ---- tests
 
@@ -78,40 +73,12 @@ none_counted (suc k) =
     ap (λ (b : Bool). not (suc k == 0) && b) (false_from_ne_true (nat_le (suc k) 0) (λ e. let few = leb-true (suc k) 0 e in absurd (omega (arith, few))))
     ∙ and-false (not (suc k == 0))
 
-module _ (g : Geometry) (w : CoreState) (none : held w ≡ []) where
-  abbrev alone : CoreState
-  alone = record w { waiting = [] }
-
-  idle_alone : IsIdle alone
-  idle_alone = record { none_waits = refl; none_held = none }
-
-  none_unlogged : unlogged_changes w ≡ 0
-  none_unlogged = λ i. count_by (λ (e : Entry). changes e.1) (none_in_flight alone idle_alone i) + count_by (λ (a : Replied). changes a.1) (none_ran alone idle_alone i)
-
-  -- with room in the log, and nothing held, no message lacks only room
-  none_lacks : 0 < w.room → (es : List Entry) → list_any (lacks_only_room g w) es ≡ false
-  none_lacks room [] = refl
-  none_lacks room (e ∷ es) =
-      let roomy : has_room w e ≡ true = ap (λ n. not (changes e.1) || nat_lt n w.room) none_unlogged
-      ∙ ap (λ b. not (changes e.1) || b) (lt-ltb 0 w.room room) ∙ or-true (not (changes e.1)) in
-      ap (λ b. (is_conflict_free g w e && not b) || list_any (lacks_only_room g w) es) roomy
-      ∙ ap (λ b. b || list_any (lacks_only_room g w) es) (and-false (is_conflict_free g w e)) ∙ none_lacks room es
-
-  no_room : grant_refusal g w ≡ outcomes.NoRoom → (room : ℕ) → w.room ≡ room → room ≡ 0
-  no_room why zero is = refl
-  no_room why (suc k) is =
-      let other : ◌≡◌ {A = Outcome} outcomes.NoRoom outcomes.NoneEligible = sym why
-      ∙ ap (λ b. if b then outcomes.NoRoom else outcomes.NoneEligible) (none_lacks (omega (arith, is)) w.waiting) in
-      cc
-
 -- a checkpoint begins where one is counted, or the log has no room
 calls : (n : ℕ) (p : SessionView) → CallsForCheckpoint p → held (core_state_of p.core) ≡ []
     → n + 2 ≤ cond (is_counted p) (n + 2) 0 + cond (p.core.room == 0) (n + 2) 0
 calls n p reason none_held = ⊎_elim
     (λ (due : IsDue p.trigger p.core.pieces_left). omega (arith, ap (λ (b : Bool). cond b (n + 2) 0) (counted_so p due)))
-    (λ (full : IsBlockedIn p blocked.NoRoom).
-    let none : p.core.room ≡ 0 = no_room p.core.geometry (core_state_of p.core) none_held full.reason p.core.room refl in
-    omega (arith, ap (λ (r : ℕ). cond (r == 0) (n + 2) 0) none)) reason
+    (λ (none : p.core.room ≡ 0). omega (arith, ap (λ (r : ℕ). cond (r == 0) (n + 2) 0) none)) (due_or_full p.trigger p.core reason none_held)
 
 -- ---- numbers
 

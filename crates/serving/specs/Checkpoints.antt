@@ -1,5 +1,6 @@
--- Statement for operators: When a checkpoint is due, and that a server dispatches no message then.
-use Rattle.std.specs.Prelude.{◌≡◌, ◌≢◌, ◌+◌, ◌-◌, ◌^◌, ◌≤◌, ℕ, Bool, true, false, List, [], ◌∷◌, Option, None, min}
+-- Statement for operators: When a checkpoint is due, that no message is dispatched then, and that no online one begins without a reason.
+use Rattle.std.specs.Prelude.{◌≡◌, ◌≢◌, ◌+◌, ◌-◌, ◌^◌, ◌≤◌, ◌⊎◌, ℕ, List, [], ◌∷◌, Option, None, min}
+use Rattle.histories.specs.CoreState.{CoreState}
 use Rattle.histories.specs.Events.{Event}
 use Rattle.histories.specs.MachineState.{MachineState}
 use Rattle.histories.specs.declared.outcomes.Outcome.{Outcome}
@@ -26,20 +27,20 @@ trigger_after_event trigger (outcomes.Answered ticket reply) = trigger_after tri
 trigger_after_event trigger outcomes.Cut = record trigger { answered_since = 0 }
 trigger_after_event trigger _ = trigger
 
--- whether a message is dispatched in an event with this outcome
-abbrev pub is_dispatched_by : Outcome → Bool
-is_dispatched_by (outcomes.Granted hand ticket) = true
-is_dispatched_by _ = false
+-- An event with this outcome, in this core state: if a message is dispatched, no checkpoint is due. If an online checkpoint begins, it is
+-- due, or the log has no room for another record.
+abbrev pub IsTimely : CheckpointTrigger → CoreState → Outcome → Type 0
+IsTimely trigger w (outcomes.Granted hand ticket) = IsDue trigger w.pieces_left → ⊥
+IsTimely trigger w outcomes.Cut = IsDue trigger w.pieces_left ⊎ (w.room ≡ 0)
+IsTimely trigger w _ = Unit {0}
 
--- In no event of a run from this machine state a message is dispatched while a checkpoint is due. The trigger at the start is counted on to
--- `last`.
-abbrev pub DispatchInTime : CheckpointTrigger → MachineState → List Event → CheckpointTrigger → Type 0
-DispatchInTime trigger w [] last = last ≡ trigger
-DispatchInTime trigger w (event ∷ events) last =
-    (is_dispatched_by event.outcome ≡ true → IsDue trigger w.core.pieces_left → ⊥)
-    × DispatchInTime (trigger_after_event trigger event.outcome) event.state_after events last
+-- Each event of a run from this machine state is timely. The trigger at the start is counted on to `last`.
+abbrev pub AreTimely : CheckpointTrigger → MachineState → List Event → CheckpointTrigger → Type 0
+AreTimely trigger w [] last = last ≡ trigger
+AreTimely trigger w (event ∷ events) last =
+    IsTimely trigger w.core event.outcome × AreTimely (trigger_after_event trigger event.outcome) event.state_after events last
 
 -- The same of a whole run, for checkpoints after each `every` records (0: none is due by their count), of which none is counted yet.
-abbrev pub WaitsForCheckpoints : ℕ → MachineState → List Event → Type 0
-WaitsForCheckpoints every w events =
-    (last : CheckpointTrigger) × DispatchInTime (record { every = every; answered_since = 0 }) w events last
+abbrev pub HasTimelyCheckpoints : ℕ → MachineState → List Event → Type 0
+HasTimelyCheckpoints every w events =
+    (last : CheckpointTrigger) × AreTimely (record { every = every; answered_since = 0 }) w events last

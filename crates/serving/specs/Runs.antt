@@ -14,7 +14,7 @@ use Rattle.protocol.specs.declared.replies.Reply.{Reply}
 use Rattle.protocol.specs.Lines.{lines}
 use Rattle.parcel.specs.JobRun.{JobView}
 use Rattle.scheduler.specs.CoreView.{CoreView, core_state_of}
-use Rattle.serving.specs.Checkpoints.{DispatchInTime}
+use Rattle.serving.specs.Checkpoints.{AreTimely}
 use Rattle.serving.specs.Lines.{admitted, ticketed}
 use Rattle.serving.specs.declared.checkpoints.CheckpointTrigger.{CheckpointTrigger}
 
@@ -49,12 +49,12 @@ pub record RunsBetween (keeps : Type 0) (old new : MachineView) (arriving : List
 abbrev pub HandsHaveJobs : MachineView → Type 0
 HandsHaveJobs m = HoldsJobs m.core.geometry (core_state_of m.core) m.hands
 
--- A segment of a run in which no message arrives and none is answered, or dispatched while a checkpoint is due. It counts one trigger on to
--- the other, and at its end `HandsHaveJobs` is true.
+-- A segment of a run in which no message arrives and none is answered, and whose events are timely. It counts one trigger on to the other,
+-- and at its end `HandsHaveJobs` is true.
 pub record IsInternal (keeps : Type 0) (trigger last : CheckpointTrigger) (old new : MachineView) : Type 0 where
   pub holds : HandsHaveJobs new
   pub segment : RunsBetween keeps old new [] []
-  pub in_time : DispatchInTime trigger (machine_of old) (events_of segment.device_events) last
+  pub in_time : AreTimely trigger (machine_of old) (events_of segment.device_events) last
 
 -- the lines are the first of the input, where it is known
 abbrev pub AreFirst : Option (List ℕ) → List (List ℕ) → Type 0

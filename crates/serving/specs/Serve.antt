@@ -5,7 +5,7 @@ use Rattle.scheduler.specs.Machine.{MachineView, machine_of}
 use Rattle.protocol.specs.Lines.{lines}
 use Rattle.oplog.specs.Recovery.{records_in}
 use Rattle.scheduler.specs.CoreView.{CoreView}
-use Rattle.serving.specs.Checkpoints.{WaitsForCheckpoints}
+use Rattle.serving.specs.Checkpoints.{HasTimelyCheckpoints}
 use Rattle.serving.specs.Ends.{EndsWith}
 use Rattle.serving.specs.Exchange.{Exchange}
 use Rattle.serving.specs.Lines.{Line}
@@ -42,8 +42,8 @@ pub record HasRunWith (keeps : Type 0) (every : ℕ) (start : MachineView) (new 
   pub served : HasServed keeps start new unsent input before all
   pub few : length unsent ≤ unanswered
   pub are_unsent : AreUnsent end input served.consumed unsent
-  -- no message was dispatched while a checkpoint was due
-  pub in_time : WaitsForCheckpoints every (machine_of start) (events_of served.run.segment.device_events)
+  -- no message was dispatched while a checkpoint was due, and no online one began that was neither due nor needed for room
+  pub in_time : HasTimelyCheckpoints every (machine_of start) (events_of served.run.segment.device_events)
 
 -- The call ends with `NoWorkers` exactly where there are no workers.
 abbrev pub FailsWithoutWorkers : ℕ → Result (Unit {0}) ServeFault → Type 0

@@ -7,7 +7,7 @@ use Rattle.scheduler.specs.DeviceEvents.{DeviceEvent, device_after, events_of}
 use Rattle.scheduler.specs.Machine.{MachineView, machine_of}
 use Rattle.meaning.specs.Output.{joined}
 use Rattle.message.specs.AppendsBeginning.{AppendsBeginning}
-use Rattle.serving.specs.Checkpoints.{DispatchInTime}
+use Rattle.serving.specs.Checkpoints.{AreTimely}
 use Rattle.serving.specs.Progress.{ServingProgress}
 use Rattle.serving.specs.Lines.{HaveAnswers, Line, answer_text}
 use Rattle.serving.specs.History.{AreInHistory}
@@ -51,13 +51,13 @@ pub record KeepsSent (s : Start) (sent_at : Medium) (sent : Option (List ℕ)) (
   pub begun : WritesBeginning s.core.slots unanswered s.before sent all
   pub few : length sent_lines + s.core.slots ≤ length answers + unanswered
 
--- How far the server has come (`ServingProgress`), in a run in which what was sent is kept, and no message was dispatched while a
--- checkpoint was due. `trigger`: what was counted in it.
+-- How far the server has come (`ServingProgress`), in a run in which what was sent is kept, and whose events are timely. `trigger`:
+-- what was counted in it.
 pub record ServingSince (keeps : Type 0) (s : Start) (trigger : CheckpointTrigger) (now : MachineView) (unsent : List Line)
     (unread : Option (List ℕ)) (drained : Bool) (whole : Option (List ℕ)) (sent_at : Medium) (sent : Option (List ℕ)) : Type 0 where
   pub progress : ServingProgress keeps (start_machine s) now unsent s.input unread drained s.before whole
   pub kept : KeepsSent s sent_at sent progress.consumed progress.sent_lines progress.serving.segment.device_events
-  pub in_time : DispatchInTime (start_trigger s) (machine_of (start_machine s)) (events_of progress.serving.segment.device_events) trigger
+  pub in_time : AreTimely (start_trigger s) (machine_of (start_machine s)) (events_of progress.serving.segment.device_events) trigger
 
 -- From the start of the call of `serve` a legal run has led to this session, and `unread` is what is left of the input.
 pub record SessionProgress (keeps : Type 0) (s : Start) (p : SessionView) (unread : Option (List ℕ)) (drained : Bool) : Type 0 where

@@ -8,7 +8,7 @@ use Rattle.scheduler.specs.DeviceEvents.{events_of}
 use Rattle.scheduler.specs.Machine.{MachineView, machine_of}
 use Rattle.protocol.specs.declared.messages.Msg.{Msg}
 use Rattle.scheduler.specs.CoreView.{core_state_of}
-use Rattle.serving.specs.Checkpoints.{DispatchInTime}
+use Rattle.serving.specs.Checkpoints.{AreTimely}
 use Rattle.serving.specs.Lines.{IsKnown, Line, admitted_in, ticketed}
 use Rattle.serving.specs.Runs.{HandsHaveJobs, IsInternal, RunsBetween}
 use Rattle.serving.specs.declared.checkpoints.CheckpointTrigger.{CheckpointTrigger}
@@ -19,7 +19,7 @@ use Rattle.serving.specs.declared.session.ReadEnd.TheVariants as ends_of_reading
 pub record IsTaken (keeps : Type 0) (old new : MachineView) (m : Option Msg) (known : Line) : Type 0 where
   pub holds : HandsHaveJobs new
   pub segment : RunsBetween keeps old new (ticketed old.core.next (admitted_in old.core.geometry m)) []
-  pub in_time : (trigger : CheckpointTrigger) → DispatchInTime trigger (machine_of old) (events_of segment.device_events) trigger
+  pub in_time : (trigger : CheckpointTrigger) → AreTimely trigger (machine_of old) (events_of segment.device_events) trigger
   pub is_known : IsKnown old.core.geometry [] old.core.next m known
 
 -- The core refuses the message for this reason, which isn't that it is out of range: a line out of range is consumed.

@@ -1,12 +1,14 @@
 -- The session keeps its invariant, and halts only where the device has failed.
-use Rattle.std.proofs.Common.{◌≡◌, ap, false, refl, ◌∙◌}
+use Rattle.std.proofs.Common.{◌≡◌, ap, false, refl, subst, sym, ◌∙◌}
 use Rattle.scheduler.proofs.IsCallEvent.{cut_called}
 use Rattle.scheduler.specs.CoreView.{core_state_of}
 use Rattle.serving.specs.Session.{SessionView}
+use Rattle.serving.specs.SessionSteps.{CallsForCheckpoint}
 use Rattle.serving.specs.declared.checkpoints.CheckpointTrigger.{CheckpointTrigger}
 use Rattle.serving.proofs.CheckpointSteps.{halts, stays, waits}
 use Rattle.serving.proofs.Segments.{cut_is_quiet}
 use Rattle.serving.proofs.SessionInvariant.{holds_of, on_machine}
+use Rattle.serving.proofs.TimelyCheckpoints.{begins_for_reason}
 use Rattle.serving.proofs.session.Session.begin_checkpoint.Goals as goal
 
 -- a trigger that starts anew
@@ -17,11 +19,12 @@ pub invariant_of-self : goal.invariant_of-self
 invariant_of-self g c =
     let old = c.self.inside.core in
     let new = c.cut.new.self in
-    let quiet = cut_is_quiet g.D.Disk.keeps old new c.cut.ensures.geometry c.cut.ensures.any_moment c.cut.result
+    let quiet = cut_is_quiet g.D.Disk.keeps old new c.cut.ensures.geometry c.self.inside.trigger c.cut.ensures.any_moment c.cut.result
+    (begins_for_reason c.self.inside.trigger old (subst CallsForCheckpoint (sym c.self.view_is) c.requires.reason) (core_state_of new) _ c.cut.result c.cut.ensures.state_after)
     (cut_called old.geometry (core_state_of old) (core_state_of new) c.cut.result c.cut.ensures.state_after) c.cut.ensures.counts c.cut.ensures.untouched in
     record {
       run = rw (restarts c.self.inside.trigger c.restart.new.self c.restart.ensures)
-          (rw c.in-Ok.is at (on_machine g.D.Disk.keeps _ _ c.self.invariant.run _ _ (quiet _ (holds_of g.D.Disk.keeps _ _ c.self.invariant.run) _) refl refl));
+          (rw c.in-Ok.is at (on_machine g.D.Disk.keeps _ _ c.self.invariant.run _ _ (quiet _ (holds_of g.D.Disk.keeps _ _ c.self.invariant.run)) refl refl));
       bench = c.self.invariant.bench;
     }
 
@@ -29,9 +32,10 @@ pub invariant_of-self-in-Err : goal.invariant_of-self-in-Err
 invariant_of-self-in-Err g c =
     let old = c.self.inside.core in
     let new = c.cut.new.self in
-    let quiet = cut_is_quiet g.D.Disk.keeps old new c.cut.ensures.geometry c.cut.ensures.any_moment c.cut.result
+    let quiet = cut_is_quiet g.D.Disk.keeps old new c.cut.ensures.geometry c.self.inside.trigger c.cut.ensures.any_moment c.cut.result
+    (begins_for_reason c.self.inside.trigger old (subst CallsForCheckpoint (sym c.self.view_is) c.requires.reason) (core_state_of new) _ c.cut.result c.cut.ensures.state_after)
     (cut_called old.geometry (core_state_of old) (core_state_of new) c.cut.result c.cut.ensures.state_after) c.cut.ensures.counts c.cut.ensures.untouched in
-    record { run = rw c.in-Err.is at (on_machine g.D.Disk.keeps _ _ c.self.invariant.run _ _ (quiet _ (holds_of g.D.Disk.keeps _ _ c.self.invariant.run) _) refl refl); bench = c.self.invariant.bench }
+    record { run = rw c.in-Err.is at (on_machine g.D.Disk.keeps _ _ c.self.invariant.run _ _ (quiet _ (holds_of g.D.Disk.keeps _ _ c.self.invariant.run)) refl refl); bench = c.self.invariant.bench }
 
 pub returns-in-Err-clause-session_step : goal.returns-in-Err-clause-session_step
 returns-in-Err-clause-session_step g c =

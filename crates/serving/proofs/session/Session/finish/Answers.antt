@@ -17,9 +17,9 @@ pub invariant_of-self : goal.invariant_of-self
 invariant_of-self g c =
     let old = c.self-2.inside.core in
     let new = c.point.new.self in
-    let quiet = point_is_quiet g.D.Disk.keeps old new c.point.ensures.geometry c.point.ensures.any_moment c.point.result
+    let quiet = point_is_quiet g.D.Disk.keeps old new c.point.ensures.geometry c.self-2.inside.trigger c.point.ensures.any_moment c.point.result
     (point_called old.geometry (core_state_of old) (core_state_of new) c.point.result c.point.ensures.state_after) c.point.ensures.counts c.point.ensures.untouched in
-    record { run = on_machine g.D.Disk.keeps _ _ c.self-2.invariant.run _ _ (quiet _ (holds_of g.D.Disk.keeps _ _ c.self-2.invariant.run) _) refl refl; bench = c.self-2.invariant.bench }
+    record { run = on_machine g.D.Disk.keeps _ _ c.self-2.invariant.run _ _ (quiet _ (holds_of g.D.Disk.keeps _ _ c.self-2.invariant.run)) refl refl; bench = c.self-2.invariant.bench }
 
 pub returns-in-EndOfInput-clause-session_step : goal.returns-in-EndOfInput-clause-session_step
 returns-in-EndOfInput-clause-session_step g c =

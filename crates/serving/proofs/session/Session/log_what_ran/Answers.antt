@@ -14,9 +14,9 @@ invariant_of-self g c =
     let old = c.self.inside.core in
     let new = c.log.new.self in
     let n = c.slots-count.result in
-    let quiet = log_is_quiet g.D.Disk.keeps old new c.log.ensures.geometry n c.log.result c.log.ensures.any_moment
+    let quiet = log_is_quiet g.D.Disk.keeps old new c.log.ensures.geometry c.self.inside.trigger n c.log.result c.log.ensures.any_moment
     (log_called old.geometry (core_state_of old) (core_state_of new) n c.log.result c.log.ensures.state_after) c.log.ensures.counts c.log.ensures.untouched in
-    record { run = on_machine g.D.Disk.keeps _ _ c.self.invariant.run _ _ (quiet _ (holds_of g.D.Disk.keeps _ _ c.self.invariant.run) _) refl refl; bench = c.self.invariant.bench }
+    record { run = on_machine g.D.Disk.keeps _ _ c.self.invariant.run _ _ (quiet _ (holds_of g.D.Disk.keeps _ _ c.self.invariant.run)) refl refl; bench = c.self.invariant.bench }
 
 pub returns-clause-none : goal.returns-clause-none
 returns-clause-none g c =
