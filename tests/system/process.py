@@ -14,8 +14,8 @@ import time
 import unittest
 
 from .program import (
-    DEVICE_FAULT, MADE, PATIENCE, PROGRAM, READ_FAULT, REPLIES, WRITE_FAULT, Case, bytes_in, bytes_of, is_beginning,
-    put_bytes, read_until, run)
+    DEVICE_FAULT, MADE, PATIENCE, PROGRAM, READ_FAULT, REPLIES, TOP, WRITE_FAULT, Case, bytes_in, bytes_of,
+    is_beginning, put_bytes, read_until, run)
 from .servers import COMMON, SMALL, Device, File, text_of
 
 HELP = ("--help", "-h", "help", "plain --help", "help plain", "serve --help", "serve -h", "help serve")
@@ -337,6 +337,13 @@ def take_signals():
             signal.signal(number, signal.SIG_DFL)
 
 
+# In the place of the program: it begins once somebody writes to `go`.
+SLOW_FORMAT = """#!/bin/sh
+read word < go
+exec {} "$@"
+"""
+
+
 class Operating(Case):
     """What docs/program.md says to whoever operates a server: signals, one server at a time, `show` beside one, a
     server on a socket."""
@@ -391,6 +398,24 @@ class Operating(Case):
         first.kill()
         first.communicate()
         self.has_stopped(self.serve(*lock), 0, b"summary 0 0 0\n", given=b"summary\n")
+
+    @unittest.skipUnless(shutil.which("flock"), "flock isn't installed")
+    def test_a_device_of_its_own(self):
+        """the page's command makes a device, and waits for a format that goes on though its caller was killed"""
+        page = bytes_of(os.path.join(TOP, "docs", "program.md")).decode()
+        words = ["sh", "-c", "exec " + re.search("^    (flock d.lock .*)$", page, re.M)[1]]
+        put_bytes(self.at("waffd"), SLOW_FORMAT.format(os.path.abspath(PROGRAM)).encode())
+        os.chmod(self.at("waffd"), 0o755)
+        os.mkfifo(self.at("go"))
+        first = self.started(words, cwd=self.folder, stdout=subprocess.PIPE)
+        with open(self.at("go"), "wb") as go:  # once it formats
+            first.kill()
+            second = self.started(words, cwd=self.folder, stdout=subprocess.PIPE)
+            time.sleep(0.1)
+            self.assertIsNone(second.poll())
+            go.write(b"go\n")
+        self.assertEqual((second.communicate(timeout=PATIENCE)[0], second.returncode), (b"", 0))
+        self.has_ended(run(["show", self.at("d")]), 0)
 
     def test_socket(self):
         """a connection that blocks is both streams of a server"""
