@@ -60,8 +60,9 @@ def of_run(figures):
         f"processors ({machine['model']}), {machine['kernel']}. Each number is the median of {told['repeat']} rounds. "
         f"A row of writes or mixed lines has {lines:,} lines, one of reads {lines * MORE_READS:,}, and one with 1 "
         f"slot, of one file or of one stripe a tenth of that. The disk takes {number(median(disk))} microseconds "
-        f"({span(disk)}) to write and sync a record of the log. From round to round speeds differ by "
-        f"±{median(spreads):.0f} percent as a rule, and by ±{spreads[-1]:.0f} percent at most.")
+        f"({span(disk)}) to write and sync a record of the log. Half of the way from the slowest round of a "
+        f"row to its fastest is {median(spreads):.0f} percent of the median as a rule, and {spreads[-1]:.0f} percent "
+        f"at most.")
     if told["load"] > BUSY:
         text += f" **The machine did other work** (load {told['load']})."
     yield text
