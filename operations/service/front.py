@@ -14,8 +14,8 @@ What a client sent behind its last newline is dropped, and when its connection h
 server hasn't got. The others come before each line of whoever connects later. So a client that has gone leaves nothing
 for later. With --idle, a client is let go that neither sends nor takes anything for SECONDS, if nothing is owed to it.
 
-A client that connects to PATH is alone: the lines of all others wait until it has gone, for STANDSTILL at most. Before
-the next one is let in there, the others have as much time as it had.
+A client that connects to PATH is alone: the lines of all others wait until it has gone, for a minute at most. Before
+the next one is let in there, the others have as much time as it was alone.
 
 Up to LINES, or some more, are in flight: the server has got them and hasn't answered. A line waits for the replies to
 so many lines of others, and with fewer than twice as many as it has slots the server isn't kept busy.
